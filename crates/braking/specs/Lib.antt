@@ -1,0 +1,4 @@
+pub mod Refusals
+pub mod Limits
+pub mod Distance
+pub mod Laws
