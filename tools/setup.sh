@@ -24,4 +24,5 @@ need() {
     fi
     "${as_root[@]}" apt-get update >&2 && "${as_root[@]}" apt-get install -y "$2" >&2 ||
         give_up "Debian's package '$2' could not be installed"
+    command -v "$1" >/dev/null || give_up "Debian's package '$2' did not bring '$1'"
 }
