@@ -7,6 +7,7 @@ use crate::limits::check_speed;
 use crate::limits::check_train;
 use crate::refusal::Refusal;
 use crate::refusal::RefusalDebug;
+use crate::refusal::RefusalDisplay;
 use crate::refusal::RefusalPartialEq;
 use std::test::*;
 
@@ -99,4 +100,10 @@ fn numbers_and_places() -> Result<(), Fail> {
         check_eq(refusal.place(), place)?;
     }
     Ok(())
+}
+
+#[test]
+fn a_refusal_in_words(rt: LibcRuntime) -> Result<(), Fail> {
+    let words = Refusal::BlurRange.to_string(rt.alloc())?;
+    check_eq(words.as_str(), "refused 1 at 1: a blur is from 0 to 100")
 }
