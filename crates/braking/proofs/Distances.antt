@@ -50,7 +50,7 @@ distance-high b (suc v) hb h =
     omega arith
 
 pub rule : Rule
-rule b v hb = (distance-low b v, distance-high b v hb)
+rule b hb = (distance-low b, λ v. distance-high b v hb)
 
 grows : (n : ℕ) (b : Brakes) (v w : ℕ) → 0 < b .brake → w ≤ n → v ≤ w → distance b v ≤ distance b w
 grows zero b v w hb hn h = omega (arith, distance-low b v (omega arith))
@@ -93,7 +93,7 @@ whole (suc n) b v hb hn =
 pub most : Most
 most b v hb = (within b v hb, whole v b v hb (omega arith))
 
-bounded : (n : ℕ) (b : Brakes) (v : ℕ) → 0 < b .brake → b .blur ≤ blur-max → v ≤ speed-max → v ≤ n → distance b v ≤ v * 10100
+bounded : (n : ℕ) (b : Brakes) (v : ℕ) → 0 < b .brake → b .blur ≤ blur-max → v ≤ speed-max → v ≤ n → distance b v ≤ v * (speed-max + blur-max)
 bounded zero b v hb hu hv hn = omega (arith, distance-low b v (omega arith))
 bounded (suc n) b v hb hu hv hn =
     elim (decLe v (b .brake)) [

@@ -1,5 +1,5 @@
 -- The braking distance. Assumes nothing: these are definitions.
-use Prim.Native.Nat.{ℕ, zero, suc, _+_, _-_}
+use Prim.Native.Nat.{ℕ, zero, suc, _+_, _-_, _*_}
 use mathlib.Core.Bool.{Bool, cond}
 use lib.Dec.{leb}
 use Rattle.std.specs.declared.result.Result.{Result}
@@ -20,9 +20,9 @@ distance-in (suc n) b v = cond (leb v (b .brake)) 0 ((v - b .brake) + b .blur + 
 unfoldable pub distance : Brakes → ℕ → ℕ
 distance b v = distance-in v b v
 
--- no distance is longer: at most 10,000 ticks of at most 10,000 each and a blur of 100
+-- no distance is longer, 101,000,000: as many ticks as the highest speed has units, each of at most that speed and the largest blur
 abbrev pub distance-max : ℕ
-distance-max = 101000000
+distance-max = speed-max * (speed-max + blur-max)
 
 -- the distance, or why there is none to tell: the brakes are looked at before the speed
 abbrev pub distance-checked : Brakes → ℕ → Result ℕ Refusal

@@ -7,11 +7,15 @@ use lib.Dec.{eqb}
 use Rattle.braking.specs.declared.brakes.Brakes.{Brakes}
 use Rattle.braking.specs.Distance.{distance}
 
--- the rule of the distance: 0 up to the brake; above it the speed that is left, the blur, and the distance from that speed
+-- the rule of the distance with these brakes: 0 up to the brake; above it the speed that is left, the blur, and the distance from that speed
+abbrev pub Ruled : Brakes → Type 0
+Ruled b =
+    ((v : ℕ) → v ≤ b .brake → distance b v ≡ 0)
+    × ((v : ℕ) → b .brake < v → distance b v ≡ (v - b .brake) + b .blur + distance b (v - b .brake))
+
+-- the rule holds with all brakes but 0
 abbrev pub Rule : Type 0
-Rule =
-    (b : Brakes) (v : ℕ) → 0 < b .brake →
-    (v ≤ b .brake → distance b v ≡ 0) × (b .brake < v → distance b v ≡ (v - b .brake) + b .blur + distance b (v - b .brake))
+Rule = (b : Brakes) → 0 < b .brake → Ruled b
 
 -- less speed takes no more distance
 abbrev pub Less-speed : Type 0

@@ -4,7 +4,7 @@ ghost use mathlib.Core.Path.{_≡_};
 use std::error;
 use std::fmt;
 
-// A case for each reason. Number and place are those of the list of refusals; places count from 0.
+// A case for each reason of the list in docs/FORMATS.md.
 #[derive(Clone, Copy, PartialEq, Eq, Debug)]
 pub enum Refusal {
     BrakeRange,
@@ -63,7 +63,7 @@ impl Refusal {
         }
     }
 
-    // What would be right, in words.
+    // What would be right, in words; where that is not told in a few, what is wrong.
     fn reason(self) -> &'static str {
         match self {
             Refusal::BrakeRange => "a brake is from 1 to 100",
@@ -71,12 +71,12 @@ impl Refusal {
             Refusal::SpeedTooHigh => "a speed is at most 10000",
             Refusal::PlaceTooFar => "a place is at most 1000000000",
             Refusal::MessageLength { .. } => "a message has 12 bytes",
-            Refusal::MessageCheck => "the check is not that of the message's first 8 bytes",
+            Refusal::MessageCheck => "a message ends with the check of its first 8 bytes",
             Refusal::FirstByte => "a message begins with 1 for a report or 2 for a grant",
             Refusal::ThirdByte | Refusal::FourthByte => "a message's third and fourth bytes are 0",
             Refusal::TrainTooHigh => "a train's number is at most 63",
             Refusal::GrantToForemost => "nobody grants to train 0, the foremost",
-            Refusal::OtherTrain { .. } => "the grant is for another train",
+            Refusal::OtherTrain { .. } => "a unit takes only grants for its own train",
             Refusal::TooManyTrains => "there are at most 64 trains",
             Refusal::TooManyControllers => "there are at most 8 controllers",
             Refusal::NotInitial { .. } => "no day can begin with this train as it is given",

@@ -1,7 +1,8 @@
 -- What the loop over the ticks of braking keeps.
-use Prim.Native.Nat.{ℕ, _+_, _-_, _≤_, _<_}
+use Prim.Native.Nat.{_+_, _≤_, _<_}
 use mathlib.Core.Path.{_≡_}
 use Rattle.braking.specs.Distance.{distance, distance-max}
+use Rattle.braking.specs.Laws.{Ruled}
 use Rattle.braking.proofs.brakes.Brakes.braking_distance.Given as given
 
 -- What was added up, and the distance from the speed that is left, are the distance from the speed. The rest are
@@ -12,8 +13,7 @@ Inv-loop-left l =
     × (l .distance + distance (l .self) (l .left) ≡ distance (l .self) (l .speed))
     × (0 < l .self .brake)
     × (distance (l .self) (l .speed) ≤ distance-max)
-    × ((v : ℕ) → v ≤ l .self .brake → distance (l .self) v ≡ 0)
-    × ((v : ℕ) → l .self .brake < v → distance (l .self) v ≡ (v - l .self .brake) + l .self .blur + distance (l .self) (v - l .self .brake))
+    × Ruled (l .self)
 
 abbrev pub μ-loop-left : given.MeasureT-loop-left
 μ-loop-left l = l .left
