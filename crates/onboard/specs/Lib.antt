@@ -1,2 +1,5 @@
 pub mod Rule
 pub mod Steps
+pub mod Train
+pub mod Laws
+pub mod Day
