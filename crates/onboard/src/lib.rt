@@ -9,3 +9,6 @@ pub use laws::unit_laws;
 pub use unit::Grant;
 pub use unit::Onboard;
 pub use word::Word;
+
+#[cfg(test)]
+mod tests;
