@@ -24,10 +24,11 @@ pub record Seen : Type 0 where
   pub high : ℕ
   pub end : ℕ
 
--- a row of the table below
+-- a row of the table at the end of this file
 abbrev pub row : Option Word → (front speed low high end : ℕ) → Seen
 row word front speed low high end = record { word = word; front = front; speed = speed; low = low; high = high; end = end }
 
+-- the row of one event
 abbrev pub seen-at : Train → Event → Seen
 seen-at t e = row (word-at t e) (after t e .front) (after t e .unit .speed) (after t e .unit .low) (after t e .unit .high) (after t e .unit .end)
 
