@@ -1,0 +1,3 @@
+pub mod FourBytes
+pub mod Numbers
+pub mod RoundTrip

@@ -1,0 +1,5 @@
+pub mod Messages
+pub mod Bytes
+pub mod Numbers
+pub mod Stream
+pub mod Laws
