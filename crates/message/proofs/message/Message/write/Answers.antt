@@ -1,5 +1,4 @@
-use mathlib.Core.Path.{ap, subst⁻¹, _∙_}
-use Rattle.std.specs.Vec.{made}
+use mathlib.Core.Path.{ap, _∙_}
 use Rattle.message.specs.Numbers.{numbers-written}
 use Rattle.message.proofs.Numbers.{written-in-numbers}
 use Rattle.message.proofs.RoundTrip.{made-heard}
