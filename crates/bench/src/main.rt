@@ -1,7 +1,10 @@
 // The bench: for now it prints a table of braking distances.
+#![tactic(auto)]
+
 use anyhow::anyhow;
 use braking::Brakes;
-use std::env;
+use std::process::ExitCode;
+use std::{env, io};
 
 const USAGE: &str = "usage: bench [--help]
 
@@ -24,19 +27,19 @@ fn run(rt: &HostRuntime) -> anyhow::Result<()> {
     let mut arguments = env::args(rt)?.skip(1);
     match arguments.next() {
         None => print_distances(rt, Brakes { brake: 3, blur: 1 }),
-        Some(word) if word == "--help" => Ok(println!(rt; "{USAGE}")?),
+        Some(word) if word.as_str() == "--help" => Ok(println!(rt; "{USAGE}")?),
         Some(word) => Err(anyhow!(format!(in rt.alloc();
             "only --help is an argument yet, not '{word}'"
         )?)),
     }
 }
 
-fn main(rt: HostRuntime) -> anyhow::Result<()> {
+fn main(rt: HostRuntime) -> io::Result<ExitCode> {
     match run(&rt) {
-        Ok(()) => Ok(()),
+        Ok(()) => Ok(ExitCode::SUCCESS),
         Err(error) => {
             eprintln!(rt; "bench: {error}")?;
-            Err(error)
+            Ok(ExitCode::FAILURE)
         }
     }
 }

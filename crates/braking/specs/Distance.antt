@@ -1,5 +1,5 @@
 -- The braking distance. Assumes nothing: these are definitions.
-use Rattle.std.specs.Prelude.{ℕ, zero, suc, ◌+◌, ◌-◌, ◌*◌, Bool, cond, Ok, Result, nat_le}
+use Rattle.std.specs.Prelude.{ℕ, zero, suc, ◌+◌, ◌-◌, ◌*◌, cond, Ok, Result, nat_le}
 use Rattle.braking.specs.declared.brakes.Brakes.{Brakes}
 use Rattle.braking.specs.declared.refusal.Refusal.{Refusal}
 use Rattle.braking.specs.Refusals.{◌then◌}

@@ -1,5 +1,5 @@
 -- The limit of every number, and what the check of each answers. Assumes nothing: these are definitions.
-use Rattle.std.specs.Prelude.{ℕ, Bool, ◌&&◌, nat_le}
+use Rattle.std.specs.Prelude.{ℕ, ◌&&◌, nat_le}
 use Rattle.braking.specs.declared.brakes.Brakes.{Brakes}
 use Rattle.braking.specs.declared.refusal.Refusal.TheVariants.{BrakeRange, BlurRange, SpeedTooHigh, PlaceTooFar, TrainTooHigh, TooManyTrains, TooManyControllers}
 use Rattle.braking.specs.Refusals.{Checked, check, ◌then◌}

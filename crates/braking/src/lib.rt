@@ -1,4 +1,6 @@
 // The lowest layer: limits, refusals, brakes and the braking distance.
+#![tactic(auto)]
+
 pub mod brakes;
 pub mod laws;
 pub mod limits;

@@ -1,4 +1,6 @@
 // The controller: what it has heard of each train, and what it says of it and grants by it.
+#![tactic(auto)]
+
 pub mod controller;
 pub mod laws;
 

@@ -1,4 +1,6 @@
 // The check of a message: the CRC-32 of IEEE 802.3.
+#![tactic(auto)]
+
 pub mod check;
 pub mod laws;
 mod table;

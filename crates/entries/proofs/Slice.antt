@@ -21,7 +21,7 @@ use denote.RattleType.{RattleType, owns}
 use denote.Laws.{Is, shows}
 use denote.Memory.{mem, lone, pointee}
 use denote.Ref.{MutRef, mut_vals, mut_Tells}
-use denote.Slice.{Room, ShrSlice, slice_ty, shr_slice_vals, mut_slice_vals, shr_slice_Tells}
+use denote.Slice.{Room, ShrSlice, slice_ty, shr_slice_vals, shr_slice_Tells}
 use denote.Signature.{plain}
 use denote.Steps.{opens, closes, owned, facts, heard, nothing, only}
 use denote.Struct.Laws as LL
@@ -108,7 +108,7 @@ module _ (X : State) (Y : Kind) where
       module _ (𝓣 : Tables 𝓤 H) (f : Callee) (met : Triple 𝓤 (𝓣.C f) Step) where
         module _ (κ κ' : Lft) (q q' : Share) (b o : ℕ) (γ : GName) (h : Lent) (n : Arg) (room : Room u8 (length n.now)) where
           abbrev bound : (walk_of 𝓛 ended stayed clauses).Ghost
-          bound = (((κ, (κ', tt)), (q, (q', tt)), tt, (record { ref_ptr = (b, o); ghost_name = γ; now = h }, (n, tt)), (vptr b o ∷ [], (mut_slice_vals n, tt))), tt)
+          bound = (((κ, (κ', tt)), (q, (q', tt)), tt, (record { ref_ptr = (b, o); ghost_name = γ; now = h }, (n, tt)), (vptr b o ∷ [], (shr_slice_vals n, tt))), tt)
 
           abbrev Post : Val → SProp 𝓤
           Post = (walk_of 𝓛 ended stayed clauses).post bound

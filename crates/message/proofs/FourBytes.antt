@@ -1,5 +1,5 @@
 -- A number in four bytes, there and back. Assumes nothing.
-use Rattle.std.proofs.Common.{◌≡◌, ℕ, ◌+◌, ◌*◌, ◌/◌, ◌%◌, ◌^◌, ◌<◌, List, [], ◌∷◌, sym, ap, ◌∙◌, mod-eq_of_lt, div-add-mod', arith, shr-shr}
+use Rattle.std.proofs.Common.{◌≡◌, ℕ, ◌+◌, ◌*◌, ◌/◌, ◌%◌, ◌^◌, ◌<◌, [], ◌∷◌, sym, ap, ◌∙◌, mod-eq_of_lt, div-add-mod', arith, shr-shr}
 use Rattle.crc.specs.Crc.{AllBytes}
 use Rattle.crc.proofs.Range.{none, one_more}
 use Rattle.message.specs.Bytes.{four_bytes, number_at}

@@ -1,4 +1,6 @@
 // Messages on the radio: what they say, and the 12 bytes of each.
+#![tactic(auto)]
+
 pub mod format;
 pub mod laws;
 pub mod message;

@@ -7,8 +7,8 @@ use Rattle.braking.specs.Distance.{distance, distance_in}
 use Rattle.braking.proofs.Distances.{distance_low, less_speed, braking_leaves}
 use Rattle.onboard.specs.declared.unit.Onboard.{Onboard}
 use Rattle.onboard.specs.Steps.{kept, done, high_after}
-use Rattle.onboard.specs.Train.{Train, Event, tick, mark, take, fastest, Possible, front_after, unit_after, after, Known, CanStop, InRange, RearPast, Sound}
-use Rattle.onboard.specs.Laws.{KnownStays, KnownWithinBlur, CanStopStays, StandingSound, SoundStays, Answers, SoundAnswers, ReportTrue, RearPastStays}
+use Rattle.onboard.specs.Train.{Train, Event, tick, mark, take, fastest, Possible, front_after, unit_after, Known, CanStop, InRange, RearPast, Sound}
+use Rattle.onboard.specs.Laws.{KnownStays, KnownWithinBlur, CanStopStays, StandingSound, SoundStays, SoundAnswers, ReportTrue, RearPastStays}
 use Rattle.onboard.specs.Day.{WorkedDay}
 
 pub known_within_blur : KnownWithinBlur

@@ -1,5 +1,5 @@
 -- What is promised of every unit. Each is a statement, and stands on the contract of a function.
-use Rattle.std.specs.Prelude.{◌≡◌, ℕ, ◌+◌, ◌-◌, ◌≤◌, Bool, cond, Ok}
+use Rattle.std.specs.Prelude.{◌≡◌, ℕ, ◌+◌, ◌-◌, ◌≤◌, cond, Ok}
 use Rattle.braking.specs.Limits.{brakes_checked, speed_max, place_max}
 use Rattle.onboard.specs.declared.unit.Onboard.{Onboard}
 use Rattle.onboard.specs.declared.word.Word.TheVariants.{Drive, Brake}

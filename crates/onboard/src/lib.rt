@@ -1,4 +1,6 @@
 // The onboard unit: the computer on a train, which lets the driver have a speed or brakes.
+#![tactic(auto)]
+
 pub mod drive;
 pub mod laws;
 pub mod unit;

@@ -1,4 +1,6 @@
 // The ends of the radio: what units and controllers make of bytes that come, and the bytes that they send.
+#![tactic(auto)]
+
 pub mod controller_end;
 pub mod laws;
 pub mod unit_end;

@@ -47,19 +47,19 @@ fn controllers() -> [Controller; 3] {
 
 fn unit_told(rt: &impl Abort, unit: Onboard, number: u64) {
     let mut lent = unit;
-    let word = entries::unit::ask(&mut lent, number);
+    let word = entries::unit_entry::ask(&mut lent, number);
     assert_eq!(rt; (lent, word), unit.ask(number));
     let mut lent = unit;
-    let answer = entries::unit::moved(&mut lent, number);
+    let answer = entries::unit_entry::moved(&mut lent, number);
     assert_eq!(rt; (lent, answer), unit.moved(number));
     let mut lent = unit;
-    let answer = entries::unit::mark(&mut lent, number);
+    let answer = entries::unit_entry::mark(&mut lent, number);
     assert_eq!(rt; (lent, answer), unit.mark(number));
 }
 
 fn unit_handed(rt: &impl Abort, unit: Onboard, bytes: &[u8]) {
     let mut lent = unit;
-    let answer = entries::unit::take(&mut lent, bytes);
+    let answer = entries::unit_entry::take(&mut lent, bytes);
     assert_eq!(rt; (lent, answer), radio::take(unit, bytes));
 }
 
@@ -80,23 +80,23 @@ fn lent_units(rt: HostRuntime) {
             unit_handed(&rt, unit, bytes);
         }
         let mut lent = unit;
-        let answer = entries::unit::report(&mut lent);
+        let answer = entries::unit_entry::report(&mut lent);
         assert_eq!(rt; (lent, answer), radio::report(unit));
     }
 }
 
 fn controller_asked(rt: &impl Abort, controller: Controller, train: u64) {
     let mut lent = controller;
-    let answer = entries::controller::tell(&mut lent, train);
+    let answer = entries::controller_entry::tell(&mut lent, train);
     assert_eq!(rt; (lent, answer), radio::tell(controller, train));
     let mut lent = controller;
-    let answer = entries::controller::grant(&mut lent, train);
+    let answer = entries::controller_entry::grant(&mut lent, train);
     assert_eq!(rt; (lent, answer), radio::grant(controller, train));
 }
 
 fn controller_handed(rt: &impl Abort, controller: Controller, bytes: &[u8]) {
     let mut lent = controller;
-    let answer = entries::controller::hear(&mut lent, bytes);
+    let answer = entries::controller_entry::hear(&mut lent, bytes);
     assert_eq!(rt; (lent, answer), radio::hear(controller, bytes));
 }
 
@@ -117,7 +117,7 @@ fn lent_controllers(rt: HostRuntime) {
             controller_handed(&rt, controller, bytes);
         }
         let mut lent = controller;
-        entries::controller::restart(&mut lent);
+        entries::controller_entry::restart(&mut lent);
         assert_eq!(rt; (lent, ()), controller.restart());
     }
 }

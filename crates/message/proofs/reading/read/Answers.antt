@@ -8,4 +8,4 @@ pub returns : goal.returns
 returns c =
     let bytes = c.args.bytes.now in
     let e = c.heard.ensures in
-    record { value = e; numbers = ap numbers_received e ∙ read_in_numbers bytes; only = λ m h. only_written bytes (record { each = λ i. (c.type-inv.bytes i).fits }) m (sym e ∙ h) }
+    record { value = e; numbers = ap numbers_received e ∙ read_in_numbers bytes; only = λ m h. only_written bytes (record { each = λ i. (c.type_inv.bytes i).fits }) m (sym e ∙ h) }

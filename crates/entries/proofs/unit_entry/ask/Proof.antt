@@ -5,14 +5,14 @@ use contract.Running.{tables, tables_of}
 use denote.Triple.Spec.{triple_of}
 use denote.Triple.Table.{entered, cited}
 use Rattle.onboard.specs.Steps.{asked}
-use Rattle.entries.specs.contracts.unit.ask as F
-use Rattle.entries.specs.contracts.unit.ask.Key.{name as #self}
+use Rattle.entries.specs.contracts.unit_entry.ask as F
+use Rattle.entries.specs.contracts.unit_entry.ask.Key.{name as #self}
 use Rattle.entries.proofs.With.{lent}
 use Rattle.entries.proofs.Rows.{onboard, number, word}
 use Rattle.onboard.proofs.unit.Onboard.ask.Symbol as step·sym
 use Rattle.onboard.proofs.unit.Onboard.ask.Met as step_met
-use Rattle.entries.proofs.unit.ask.Statement as stated
-use Rattle.entries.proofs.unit.ask.Code as code
+use Rattle.entries.proofs.unit_entry.ask.Statement as stated
+use Rattle.entries.proofs.unit_entry.ask.Code as code
 
 pub ask_spec : {M : Type 1} → stated.statement M
 unfolding tables_of

@@ -5,14 +5,14 @@ use contract.Running.{tables, tables_of}
 use denote.Triple.Spec.{triple_of}
 use denote.Triple.Table.{entered, cited}
 use Rattle.radio.specs.Ends.{grant_bytes}
-use Rattle.entries.specs.contracts.controller.grant as F
-use Rattle.entries.specs.contracts.controller.grant.Key.{name as #self}
+use Rattle.entries.specs.contracts.controller_entry.grant as F
+use Rattle.entries.specs.contracts.controller_entry.grant.Key.{name as #self}
 use Rattle.entries.proofs.With.{lent}
 use Rattle.entries.proofs.Rows.{controller, number, sent_or_refused}
 use Rattle.radio.proofs.grant.Symbol as step·sym
 use Rattle.radio.proofs.grant.Met as step_met
-use Rattle.entries.proofs.controller.grant.Statement as stated
-use Rattle.entries.proofs.controller.grant.Code as code
+use Rattle.entries.proofs.controller_entry.grant.Statement as stated
+use Rattle.entries.proofs.controller_entry.grant.Code as code
 
 pub grant_spec : {M : Type 1} → stated.statement M
 unfolding tables_of

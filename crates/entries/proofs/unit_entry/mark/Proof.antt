@@ -6,14 +6,14 @@ use denote.Triple.Spec.{triple_of}
 use denote.Triple.Table.{entered, cited}
 use Rattle.braking.specs.Refusals.{kept, done}
 use Rattle.onboard.specs.Steps.{after_mark}
-use Rattle.entries.specs.contracts.unit.mark as F
-use Rattle.entries.specs.contracts.unit.mark.Key.{name as #self}
+use Rattle.entries.specs.contracts.unit_entry.mark as F
+use Rattle.entries.specs.contracts.unit_entry.mark.Key.{name as #self}
 use Rattle.entries.proofs.With.{lent}
 use Rattle.entries.proofs.Rows.{onboard, number, done_or_refused}
 use Rattle.onboard.proofs.unit.Onboard.mark.Symbol as step·sym
 use Rattle.onboard.proofs.unit.Onboard.mark.Met as step_met
-use Rattle.entries.proofs.unit.mark.Statement as stated
-use Rattle.entries.proofs.unit.mark.Code as code
+use Rattle.entries.proofs.unit_entry.mark.Statement as stated
+use Rattle.entries.proofs.unit_entry.mark.Code as code
 
 pub mark_spec : {M : Type 1} → stated.statement M
 unfolding tables_of

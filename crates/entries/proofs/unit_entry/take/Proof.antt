@@ -6,14 +6,14 @@ use denote.Triple.Spec.{triple_of}
 use denote.Triple.Table.{entered, cited}
 use Rattle.braking.specs.Refusals.{kept, done}
 use Rattle.radio.specs.Ends.{after_taking}
-use Rattle.entries.specs.contracts.unit.take as F
-use Rattle.entries.specs.contracts.unit.take.Key.{name as #self}
+use Rattle.entries.specs.contracts.unit_entry.take as F
+use Rattle.entries.specs.contracts.unit_entry.take.Key.{name as #self}
 use Rattle.entries.proofs.Slice.{lent}
 use Rattle.entries.proofs.Rows.{onboard, done_or_refused}
 use Rattle.radio.proofs.take.Symbol as step·sym
 use Rattle.radio.proofs.take.Met as step_met
-use Rattle.entries.proofs.unit.take.Statement as stated
-use Rattle.entries.proofs.unit.take.Code as code
+use Rattle.entries.proofs.unit_entry.take.Statement as stated
+use Rattle.entries.proofs.unit_entry.take.Code as code
 
 pub take_spec : {M : Type 1} → stated.statement M
 unfolding tables_of

@@ -6,14 +6,14 @@ use denote.Triple.Spec.{triple_of}
 use denote.Triple.Table.{entered, cited}
 use Rattle.braking.specs.Refusals.{kept, done}
 use Rattle.onboard.specs.Steps.{after_tick}
-use Rattle.entries.specs.contracts.unit.moved as F
-use Rattle.entries.specs.contracts.unit.moved.Key.{name as #self}
+use Rattle.entries.specs.contracts.unit_entry.moved as F
+use Rattle.entries.specs.contracts.unit_entry.moved.Key.{name as #self}
 use Rattle.entries.proofs.With.{lent}
 use Rattle.entries.proofs.Rows.{onboard, number, done_or_refused}
 use Rattle.onboard.proofs.unit.Onboard.moved.Symbol as step·sym
 use Rattle.onboard.proofs.unit.Onboard.moved.Met as step_met
-use Rattle.entries.proofs.unit.moved.Statement as stated
-use Rattle.entries.proofs.unit.moved.Code as code
+use Rattle.entries.proofs.unit_entry.moved.Statement as stated
+use Rattle.entries.proofs.unit_entry.moved.Code as code
 
 pub moved_spec : {M : Type 1} → stated.statement M
 unfolding tables_of

@@ -5,14 +5,14 @@ use contract.Running.{tables, tables_of}
 use denote.Triple.Spec.{triple_of}
 use denote.Triple.Table.{entered, cited}
 use Rattle.radio.specs.Ends.{report_bytes}
-use Rattle.entries.specs.contracts.unit.report as F
-use Rattle.entries.specs.contracts.unit.report.Key.{name as #self}
+use Rattle.entries.specs.contracts.unit_entry.report as F
+use Rattle.entries.specs.contracts.unit_entry.report.Key.{name as #self}
 use Rattle.entries.proofs.Alone.{lent}
 use Rattle.entries.proofs.Rows.{onboard, sent_or_refused}
 use Rattle.radio.proofs.report.Symbol as step·sym
 use Rattle.radio.proofs.report.Met as step_met
-use Rattle.entries.proofs.unit.report.Statement as stated
-use Rattle.entries.proofs.unit.report.Code as code
+use Rattle.entries.proofs.unit_entry.report.Statement as stated
+use Rattle.entries.proofs.unit_entry.report.Code as code
 
 pub report_spec : {M : Type 1} → stated.statement M
 unfolding tables_of

@@ -6,14 +6,14 @@ use denote.Triple.Spec.{triple_of}
 use denote.Triple.Table.{entered, cited}
 use Rattle.braking.specs.Refusals.{kept, done}
 use Rattle.radio.specs.Ends.{after_hearing}
-use Rattle.entries.specs.contracts.controller.hear as F
-use Rattle.entries.specs.contracts.controller.hear.Key.{name as #self}
+use Rattle.entries.specs.contracts.controller_entry.hear as F
+use Rattle.entries.specs.contracts.controller_entry.hear.Key.{name as #self}
 use Rattle.entries.proofs.Slice.{lent}
 use Rattle.entries.proofs.Rows.{controller, done_or_refused}
 use Rattle.radio.proofs.hear.Symbol as step·sym
 use Rattle.radio.proofs.hear.Met as step_met
-use Rattle.entries.proofs.controller.hear.Statement as stated
-use Rattle.entries.proofs.controller.hear.Code as code
+use Rattle.entries.proofs.controller_entry.hear.Statement as stated
+use Rattle.entries.proofs.controller_entry.hear.Code as code
 
 pub hear_spec : {M : Type 1} → stated.statement M
 unfolding tables_of

@@ -5,14 +5,14 @@ use contract.Running.{tables, tables_of}
 use denote.Triple.Spec.{triple_of}
 use denote.Triple.Table.{entered, cited}
 use Rattle.controller.specs.Steps.{silent}
-use Rattle.entries.specs.contracts.controller.restart as F
-use Rattle.entries.specs.contracts.controller.restart.Key.{name as #self}
+use Rattle.entries.specs.contracts.controller_entry.restart as F
+use Rattle.entries.specs.contracts.controller_entry.restart.Key.{name as #self}
 use Rattle.entries.proofs.Alone.{lent}
 use Rattle.entries.proofs.Rows.{controller, nothing}
 use Rattle.controller.proofs.controller.Controller.restart.Symbol as step·sym
 use Rattle.controller.proofs.controller.Controller.restart.Met as step_met
-use Rattle.entries.proofs.controller.restart.Statement as stated
-use Rattle.entries.proofs.controller.restart.Code as code
+use Rattle.entries.proofs.controller_entry.restart.Statement as stated
+use Rattle.entries.proofs.controller_entry.restart.Code as code
 
 pub restart_spec : {M : Type 1} → stated.statement M
 unfolding tables_of

@@ -5,14 +5,14 @@ use contract.Running.{tables, tables_of}
 use denote.Triple.Spec.{triple_of}
 use denote.Triple.Table.{entered, cited}
 use Rattle.radio.specs.Ends.{tell_bytes}
-use Rattle.entries.specs.contracts.controller.tell as F
-use Rattle.entries.specs.contracts.controller.tell.Key.{name as #self}
+use Rattle.entries.specs.contracts.controller_entry.tell as F
+use Rattle.entries.specs.contracts.controller_entry.tell.Key.{name as #self}
 use Rattle.entries.proofs.With.{lent}
 use Rattle.entries.proofs.Rows.{controller, number, sent_or_refused}
 use Rattle.radio.proofs.tell.Symbol as step·sym
 use Rattle.radio.proofs.tell.Met as step_met
-use Rattle.entries.proofs.controller.tell.Statement as stated
-use Rattle.entries.proofs.controller.tell.Code as code
+use Rattle.entries.proofs.controller_entry.tell.Statement as stated
+use Rattle.entries.proofs.controller_entry.tell.Code as code
 
 pub tell_spec : {M : Type 1} → stated.statement M
 unfolding tables_of
