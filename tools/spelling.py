@@ -1,7 +1,7 @@
 #!/usr/bin/env python3
 """Respells this repository's own definitions and lemmas as today's Rattle spells names: words joined by _, types in camel case.
 
-usage: tools/spelling.py      at the top of the repository, once, after /opt/rattle/port/port.py
+usage: tools/spelling.py      at the top of the repository, once, after the kit's port/port.py
 
 It was used once, when the repository was brought to a newer Rattle; docs/PORT.md says when. It touches clauses and imports in
 crates/*/src, specs/ and proofs/, and what README.md and docs/ quote between backticks; never a function's name, a string, a
