@@ -14,16 +14,16 @@ pub fn crc32(bytes: &[u8]) -> u32
     after_bytes(ALL_ONES, bytes) ^ ALL_ONES
 }
 
+#[tactic(auto, unfolding(crate::specs::Crc::after_bytes))]
 fn after_bytes(register: u32, bytes: &[u8]) -> u32
     ensures { result ≡ after_bytes register bytes.now }
 {
-    let mut after = register;
-    for byte in bytes {
-        after = after_byte(after, *byte);
-    }
-    after
+    bytes
+        .iter()
+        .fold(register, |after, byte| after_byte(after, *byte))
 }
 
+#[tactic(auto, using(crate::proofs::Linear::table_byte))]
 fn after_byte(register: u32, byte: u8) -> u32
     ensures { result ≡ after_byte register byte }
 {

@@ -266,5 +266,5 @@ const TABLE: [u32; 256] = [
 pub fn entry(byte: u8) -> u32
     ensures { result ≡ slice_index table byte }
 {
-    TABLE[byte as usize]
+    TABLE[usize::from(byte)]
 }
