@@ -12,8 +12,7 @@ Prints the braking distance from each speed from 0 to 12, with brake 3 and blur 
 how far a train still comes while it brakes, in decimetres, from a speed in decimetres a tick.";
 
 fn print_distances(rt: &HostRuntime, brakes: Brakes) -> anyhow::Result<()> {
-    let brake = brakes.brake;
-    let blur = brakes.blur;
+    let Brakes { brake, blur } = brakes;
     println!(rt; "brake {brake}")?;
     println!(rt; "blur {blur}")?;
     for speed in 0..=12 {
@@ -24,8 +23,7 @@ fn print_distances(rt: &HostRuntime, brakes: Brakes) -> anyhow::Result<()> {
 }
 
 fn run(rt: &HostRuntime) -> anyhow::Result<()> {
-    let mut arguments = env::args(rt)?.skip(1);
-    match arguments.next() {
+    match env::args(rt)?.nth(1) {
         None => print_distances(rt, Brakes { brake: 3, blur: 1 }),
         Some(word) if word.as_str() == "--help" => Ok(println!(rt; "{USAGE}")?),
         Some(word) => Err(anyhow!(format!(in rt.alloc();

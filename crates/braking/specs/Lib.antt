@@ -1,5 +1,4 @@
 pub mod Refusals
 pub mod Limits
-pub mod Places
 pub mod Distance
 pub mod Laws

@@ -4,7 +4,7 @@ ghost use Rattle.braking.specs.Distance.{distance_checked, distance_max};
 ghost use Rattle.std.specs.Prelude.{◌≡◌, ◌≤◌, IfOk};
 
 use crate::limits::{BLUR_MAX, BRAKE_MAX, BRAKE_MIN, check_speed};
-use crate::refusal::Refusal;
+use crate::refusal::{Refusal, check};
 
 // How well a train brakes and how well it knows its place. Plain numbers that may lie in memory
 // lent from elsewhere and hold anything: whatever uses them checks them first.
@@ -21,16 +21,15 @@ impl Brakes {
     pub fn check(self) -> Result<(), Refusal>
         ensures { result ≡ brakes_checked self }
     {
-        if self.brake < BRAKE_MIN || self.brake > BRAKE_MAX {
-            return Err(Refusal::BrakeRange);
-        }
-        if self.blur > BLUR_MAX {
-            return Err(Refusal::BlurRange);
-        }
-        Ok(())
+        check(
+            (BRAKE_MIN..=BRAKE_MAX).contains(&self.brake),
+            Refusal::BrakeRange,
+        )?;
+        check(self.blur <= BLUR_MAX, Refusal::BlurRange)
     }
 
     // The braking distance from `speed`: how far the front may still come after this tick, blur included.
+    // A loop and no chain of iterators: so it was asked for, and each turn is a tick of braking.
     pub fn braking_distance(self, speed: u64) -> Result<u64, Refusal>
         ensures value { result ≡ distance_checked self speed }
         ensures bound { IfOk result (λ d. d ≤ distance_max) }

@@ -2,7 +2,7 @@
 ghost use Rattle.braking.specs.Limits.{speed_checked, place_checked, train_checked, counts_checked};
 ghost use Rattle.std.specs.Prelude.{◌≡◌};
 
-use crate::refusal::Refusal;
+use crate::refusal::{Refusal, check};
 
 // The farthest place, in decimetres from the foot of the line.
 pub const PLACE_MAX: u64 = 1_000_000_000;
@@ -29,39 +29,25 @@ pub const CONTROLLERS_MAX: usize = 8;
 pub fn check_speed(speed: u64) -> Result<(), Refusal>
     ensures { result ≡ speed_checked speed }
 {
-    if speed > SPEED_MAX {
-        return Err(Refusal::SpeedTooHigh);
-    }
-    Ok(())
+    check(speed <= SPEED_MAX, Refusal::SpeedTooHigh)
 }
 
 pub fn check_place(place: u64) -> Result<(), Refusal>
     ensures { result ≡ place_checked place }
 {
-    if place > PLACE_MAX {
-        return Err(Refusal::PlaceTooFar);
-    }
-    Ok(())
+    check(place <= PLACE_MAX, Refusal::PlaceTooFar)
 }
 
 pub fn check_train(train: u64) -> Result<(), Refusal>
     ensures { result ≡ train_checked train }
 {
-    if train > TRAIN_MAX {
-        return Err(Refusal::TrainTooHigh);
-    }
-    Ok(())
+    check(train <= TRAIN_MAX, Refusal::TrainTooHigh)
 }
 
 // How many trains and controllers a line has; the trains are looked at first.
 pub fn check_counts(trains: usize, controllers: usize) -> Result<(), Refusal>
     ensures { result ≡ counts_checked trains controllers }
 {
-    if trains > TRAINS_MAX {
-        return Err(Refusal::TooManyTrains);
-    }
-    if controllers > CONTROLLERS_MAX {
-        return Err(Refusal::TooManyControllers);
-    }
-    Ok(())
+    check(trains <= TRAINS_MAX, Refusal::TooManyTrains)?;
+    check(controllers <= CONTROLLERS_MAX, Refusal::TooManyControllers)
 }

@@ -1,5 +1,5 @@
 // Why something is turned away: one enum for the whole project; and what a step that may refuse hands back.
-ghost use Rattle.braking.specs.Refusals.{done, kept, listed};
+ghost use Rattle.braking.specs.Refusals.{check, done, kept, listed};
 ghost use Rattle.std.specs.Prelude.{◌≡◌};
 
 use std::{error, fmt};
@@ -83,6 +83,13 @@ impl Refusal {
             Refusal::Impossible { .. } => "this event cannot be",
         }
     }
+}
+
+// Passes where it holds, and else refuses.
+pub fn check(holds: bool, why: Refusal) -> Result<(), Refusal>
+    ensures { result ≡ check holds why }
+{
+    if holds { Ok(()) } else { Err(why) }
 }
 
 // What a step that may refuse hands back: what it makes of the state, or the state as it was and why.

@@ -5,10 +5,9 @@ use Rattle.braking.specs.Limits.{train_max}
 use Rattle.message.specs.declared.message.Message.{Message}
 use Rattle.message.specs.declared.message.Message.TheVariants.{Report, Grant}
 use Rattle.message.specs.Messages.{kind_of, train_of, place_of}
-use Rattle.message.specs.Numbers.{numbers_done, limited}
+use Rattle.message.specs.Numbers.{numbers_done, numbers_message, limited}
 use Rattle.controller.specs.declared.controller.Controller.{Controller}
 use Rattle.controller.specs.Steps.{known, silent, after_hear, told, granted}
-use Rattle.controller.specs.Numbers.{numbers_sent}
 use Rattle.controller.specs.Hearings.{after_hearings, Among, Farthest, Whole, InRange}
 
 -- after any list of hearings, what is known of a train is the farthest place that it heard of it, or what was known before
@@ -45,8 +44,8 @@ HearInNumbers = (c : Controller) (m : Message) → numbers_done (done (after_hea
 
 abbrev pub TellInNumbers : Type 0
 TellInNumbers =
-    (c : Controller) (train : ℕ) → numbers_sent (told c train) ≡ limited 1 train (known c train) (1 ∷ train ∷ known c train ∷ [])
+    (c : Controller) (train : ℕ) → numbers_message (told c train) ≡ limited 1 train (known c train) (1 ∷ train ∷ known c train ∷ [])
 
 abbrev pub GrantInNumbers : Type 0
 GrantInNumbers =
-    (c : Controller) (train : ℕ) → numbers_sent (granted c train) ≡ limited 2 (train + 1) (known c train) (2 ∷ (train + 1) ∷ known c train ∷ [])
+    (c : Controller) (train : ℕ) → numbers_message (granted c train) ≡ limited 2 (train + 1) (known c train) (2 ∷ (train + 1) ∷ known c train ∷ [])

@@ -1,9 +1,8 @@
 -- What a controller knows, what each step makes of it, and what it answers. Assumes nothing: these are definitions.
-use Rattle.std.specs.Prelude.{ℕ, ◌+◌, replicate, Ok, Result, slice_index, slice_set}
+use Rattle.std.specs.Prelude.{ℕ, ◌+◌, max, replicate, Ok, Result, slice_index, slice_set}
 use Rattle.braking.specs.declared.refusal.Refusal.{Refusal}
 use Rattle.braking.specs.Refusals.{◌then◌}
 use Rattle.braking.specs.Limits.{trains_max}
-use Rattle.braking.specs.Places.{farther}
 use Rattle.message.specs.declared.message.Message.{Message}
 use Rattle.message.specs.declared.message.Message.TheVariants.{Report, Grant}
 use Rattle.message.specs.Messages.{message_checked}
@@ -19,7 +18,7 @@ silent = record { heard = replicate trains_max 0 }
 
 -- with a report: the farther of the two places is kept
 abbrev pub with_report : Controller → (train place : ℕ) → Controller
-with_report c train place = record { heard = slice_set c.heard train (farther (known c train) place) }
+with_report c train place = record { heard = slice_set c.heard train (max (known c train) place) }
 
 -- with a message: only a report tells a controller anything
 abbrev pub with_message : Controller → Message → Controller

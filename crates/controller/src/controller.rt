@@ -1,11 +1,11 @@
 // The controller, and its steps: each hands the controller back, with what it answers.
 ghost use Rattle.braking.specs.Limits.{train_max};
 ghost use Rattle.braking.specs.Refusals.{done, kept};
-ghost use Rattle.controller.specs.Steps.{after_hear, checked, granted, silent, told, with_report};
+ghost use Rattle.controller.specs.Steps.{after_hear, checked, granted, known, silent, told, with_report};
 ghost use Rattle.std.specs.Prelude.{◌≡◌, ◌≤◌};
 
 use braking::Refusal;
-use braking::limits::{TRAINS_MAX, check_train};
+use braking::limits::TRAINS_MAX;
 use braking::refusal::handed_back;
 use message::Message;
 
@@ -74,25 +74,30 @@ impl Controller {
         ensures { result ≡ with_report self train place }
     {
         let mut heard = self.heard;
-        let known = heard[train as usize];
-        heard[train as usize] = known.max(place);
+        heard[train as usize] = self.known(train).max(place);
         Controller { heard }
+    }
+
+    // The place that it has for a train; 0 where there can be no such train.
+    fn known(self, train: u64) -> u64
+        ensures { result ≡ known self train }
+    {
+        self.heard.get(train as usize).copied().unwrap_or(0)
     }
 
     fn told(self, train: u64) -> Result<Message, Refusal>
         ensures { result ≡ told self train }
     {
-        check_train(train)?;
-        let place = self.heard[train as usize];
+        let place = self.known(train);
         checked(Message::Report { train, place })
     }
 
     fn granted(self, train: u64) -> Result<Message, Refusal>
         ensures { result ≡ granted self train }
     {
-        check_train(train)?;
-        let place = self.heard[train as usize];
-        let behind = train + 1;
+        let place = self.known(train);
+        // a train past the last number stays past it
+        let behind = train.saturating_add(1);
         checked(Message::Grant {
             train: behind,
             place,

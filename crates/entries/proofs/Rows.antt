@@ -28,7 +28,7 @@ onboard = record { type = Onboard.the_type; laws = Onboard'.the_laws; loose = On
 abbrev pub controller : State
 controller = record { type = Controller.the_type; laws = Controller'.the_laws; loose = Controller'.the_loose; shared = Controller'.the_shared; plain = Controller'.the_plain }
 
-abbrev pub word : Kind
+abbrev word : Kind
 word = record { row = Word.the_row; laws = Word'.the_row_laws; told = Word'.the_told; plain = Word'.the_row_plain; quiet = λ x e. refl }
 
 abbrev pub nothing : Kind
@@ -60,6 +60,9 @@ or_refused K quiet = record {
 
 abbrev pub done_or_refused : Kind
 done_or_refused = or_refused nothing (λ x e. refl)
+
+abbrev pub word_or_refused : Kind
+word_or_refused = or_refused word (λ x e. refl)
 
 abbrev pub sent_or_refused : Kind
 sent_or_refused = or_refused message (λ x e. refl)

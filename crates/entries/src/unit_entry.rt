@@ -8,7 +8,7 @@ use braking::Refusal;
 use message::format::MESSAGE_LENGTH;
 use onboard::{Onboard, Word};
 
-pub fn ask(unit: &mut Onboard, wish: u64) -> Word
+pub fn ask(unit: &mut Onboard, wish: u64) -> Result<Word, Refusal>
     ensures state { unit.new ≡ unit.old }
     ensures word { result ≡ asked unit.old wish }
 {

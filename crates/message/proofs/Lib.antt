@@ -1,3 +1,1 @@
-pub mod FourBytes
-pub mod Numbers
 pub mod RoundTrip

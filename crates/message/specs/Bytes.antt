@@ -1,14 +1,12 @@
 -- A message as 12 bytes: its kind, its train, 0, 0, its place in four bytes, and the check of these eight in four bytes.
 -- Assumes nothing: these are definitions.
-use Rattle.std.specs.Prelude.{ℕ, ◌+◌, ◌*◌, ◌/◌, ◌%◌, cond, ◌||◌, List, [], ◌∷◌, ◌++◌, length, take, Ok, Err, Result, ◌==◌, slice_index}
+use Rattle.std.specs.Prelude.{ℕ, ◌+◌, ◌*◌, ◌/◌, ◌%◌, cond, ◌||◌, List, [], ◌∷◌, ◌++◌, length, take, Ok, Result, ◌==◌, slice_index}
 use Rattle.braking.specs.declared.refusal.Refusal.{Refusal}
 use Rattle.braking.specs.declared.refusal.Refusal.TheVariants.{MessageLength, MessageCheck, FirstByte, ThirdByte, FourthByte}
 use Rattle.braking.specs.Refusals.{check, ◌then◌}
 use Rattle.crc.specs.Crc.{crc32_of}
 use Rattle.message.specs.declared.message.Message.{Message}
 use Rattle.message.specs.declared.message.Message.TheVariants.{Report, Grant}
-use Rattle.message.specs.declared.message.Received.{Received}
-use Rattle.message.specs.declared.message.Received.TheVariants.{Heard, TurnedAway}
 use Rattle.message.specs.Messages.{kind_of, train_of, place_of, message_checked}
 
 -- a number in four bytes, low byte first
@@ -35,9 +33,9 @@ written m = message_checked m then Ok (with_check (body m))
 abbrev pub message_in : List ℕ → Message
 message_in bytes = cond (slice_index bytes 0 == 1) (Report (slice_index bytes 1) (number_at bytes 4)) (Grant (slice_index bytes 1) (number_at bytes 4))
 
--- the message that bytes are, or the first reason why they are none
-abbrev pub decoded : List ℕ → Result Message Refusal
-decoded bytes =
+-- the message that is heard in bytes, or the first reason why they are turned away
+abbrev pub received : List ℕ → Result Message Refusal
+received bytes =
     check (length bytes == 12) (MessageLength (length bytes)) then
     check (number_at bytes 8 == crc32_of (take 8 bytes)) MessageCheck then
     check (slice_index bytes 0 == 1 || slice_index bytes 0 == 2) FirstByte then
@@ -45,12 +43,3 @@ decoded bytes =
     check (slice_index bytes 3 == 0) FourthByte then
     message_checked (message_in bytes) then
     Ok (message_in bytes)
-
--- that as heard or turned away
-abbrev pub as_received : Result Message Refusal → Received
-as_received (Ok m) = Heard m
-as_received (Err why) = TurnedAway why
-
--- what becomes of bytes
-abbrev pub received : List ℕ → Received
-received bytes = as_received (decoded bytes)

@@ -5,29 +5,25 @@ use Rattle.braking.specs.Refusals.{Checked, listed}
 use Rattle.braking.specs.Limits.{train_max, place_max}
 use Rattle.crc.specs.Crc.{crc32_of}
 use Rattle.message.specs.declared.message.Message.{Message}
-use Rattle.message.specs.declared.message.Received.{Received}
-use Rattle.message.specs.declared.message.Received.TheVariants.{Heard, TurnedAway}
 use Rattle.message.specs.Messages.{kind_of, train_of, place_of}
 use Rattle.message.specs.Bytes.{number_at, body, with_check}
 
--- a refusal's number in the list, and its place
-abbrev pub refusal_numbers : Refusal → ℕ × List ℕ
-refusal_numbers why = ((listed why).0, (listed why).1 ∷ [])
+-- an answer in numbers: 0 and then what it says; or a refusal's number in the list, and its place
+abbrev pub in_numbers : {A : Type 0} → (A → List ℕ) → Result A Refusal → ℕ × List ℕ
+in_numbers says (Ok x) = (0, says x)
+in_numbers says (Err why) = ((listed why).0, (listed why).1 ∷ [])
 
--- what a step answers that has nothing to say: 0 where it is done, or a refusal
+-- that of a step that is done or refused
 abbrev pub numbers_done : Checked → ℕ × List ℕ
-numbers_done (Ok x) = (0, [])
-numbers_done (Err why) = refusal_numbers why
+numbers_done = in_numbers (λ x. [])
 
--- what becomes of bytes: 0 and then kind, train and place of the message, or a refusal
-abbrev pub numbers_received : Received → ℕ × List ℕ
-numbers_received (Heard m) = (0, kind_of m ∷ train_of m ∷ place_of m ∷ [])
-numbers_received (TurnedAway why) = refusal_numbers why
+-- of a message, heard or to be sent: its kind, its train and its place
+abbrev pub numbers_message : Result Message Refusal → ℕ × List ℕ
+numbers_message = in_numbers (λ m. kind_of m ∷ train_of m ∷ place_of m ∷ [])
 
--- what writing answers: 0 and then the bytes, or a refusal
+-- and of bytes
 abbrev pub numbers_written : Result (List ℕ) Refusal → ℕ × List ℕ
-numbers_written (Ok bytes) = (0, bytes)
-numbers_written (Err why) = refusal_numbers why
+numbers_written = in_numbers (λ bytes. bytes)
 
 -- rows 6 and 3 of the list, for a kind, a train and a place; if neither applies, 0 and what there is to say
 abbrev pub limited : (kind train place : ℕ) → List ℕ → ℕ × List ℕ

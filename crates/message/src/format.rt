@@ -5,7 +5,7 @@ pub const MESSAGE_LENGTH: usize = 12;
 
 pub const CHECKED_LENGTH: usize = 8;
 
-// The first byte of each kind.
+// The first byte of each kind. No enum: `Message` has the cases, and these numbers stand only where bytes are read and made.
 pub const REPORT: u8 = 1;
 
 pub const GRANT: u8 = 2;

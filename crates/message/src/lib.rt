@@ -9,6 +9,6 @@ pub mod stream;
 pub mod writing;
 
 pub use laws::message_laws;
-pub use message::{Message, Received};
+pub use message::Message;
 pub use reading::read;
 pub use stream::{Next, next_message};

@@ -1,9 +1,10 @@
-// What a message says, and what becomes of bytes that came by radio.
+// What a message says, and which messages there can be.
 ghost use Rattle.message.specs.Messages.{message_checked, place_of, train_of};
 ghost use Rattle.std.specs.Prelude.{◌≡◌};
 
 use braking::Refusal;
 use braking::limits::{check_place, check_train};
+use braking::refusal::check;
 
 #[derive(Clone, Copy, PartialEq, Eq, Debug)]
 pub enum Message {
@@ -11,12 +12,6 @@ pub enum Message {
     Report { train: u64, place: u64 },
     // the front of the train may go as far as the place
     Grant { train: u64, place: u64 },
-}
-
-#[derive(Clone, Copy, PartialEq, Eq, Debug)]
-pub enum Received {
-    Heard(Message),
-    TurnedAway(Refusal),
 }
 
 impl Message {
@@ -41,9 +36,10 @@ impl Message {
         ensures { result ≡ message_checked self }
     {
         check_train(self.train())?;
-        if let Message::Grant { train: 0, .. } = self {
-            return Err(Refusal::GrantToForemost);
-        }
+        check(
+            !matches!(self, Message::Grant { train: 0, .. }),
+            Refusal::GrantToForemost,
+        )?;
         check_place(self.place())
     }
 }

@@ -1,64 +1,43 @@
 // Bytes as a message.
-ghost use Rattle.message.specs.Bytes.{decoded, number_at, received, written};
-ghost use Rattle.message.specs.Numbers.{numbers_received, read_numbers};
-ghost use Rattle.message.specs.declared.message.Received.TheVariants.{Heard};
-ghost use Rattle.std.specs.Prelude.{◌≡◌, ◌+◌, ◌≤◌, length, Ok};
+ghost use Rattle.message.specs.Bytes.{received, written};
+ghost use Rattle.message.specs.Numbers.{numbers_message, read_numbers};
+ghost use Rattle.std.specs.Prelude.{◌≡◌, Ok};
 
 use crate::format::{CHECKED_LENGTH, GRANT, MESSAGE_LENGTH, REPORT};
-use crate::message::{Message, Received};
+use crate::message::Message;
 use braking::Refusal;
+use braking::refusal::check;
 use crc::crc32;
 
-// What the bytes say. They are taken for a message only where they are just the bytes that writing it gives.
-pub fn read(bytes: &[u8]) -> Received
+// The message that is heard in the bytes, or why they are turned away. They are taken for a message only where they are just
+// the bytes that writing it gives. No `TryFrom`: its contract would be one clause, where three with names say more.
+pub fn read(bytes: &[u8]) -> Result<Message, Refusal>
     ensures value { result ≡ received bytes.now }
-    ensures numbers { numbers_received result ≡ read_numbers bytes.now }
-    ensures only { (m : Message) → result ≡ Heard m → written m ≡ Ok bytes.now }
+    ensures numbers { numbers_message result ≡ read_numbers bytes.now }
+    ensures only { (m : Message) → result ≡ Ok m → written m ≡ Ok bytes.now }
 {
-    heard(bytes)
+    received(bytes)
 }
 
-fn heard(bytes: &[u8]) -> Received
+fn received(bytes: &[u8]) -> Result<Message, Refusal>
     ensures { result ≡ received bytes.now }
 {
-    match decoded(bytes) {
-        Ok(message) => Received::Heard(message),
-        Err(why) => Received::TurnedAway(why),
-    }
-}
-
-fn decoded(bytes: &[u8]) -> Result<Message, Refusal>
-    ensures { result ≡ decoded bytes.now }
-{
-    if bytes.len() != MESSAGE_LENGTH {
-        return Err(Refusal::MessageLength {
-            length: bytes.len(),
-        });
-    }
-    if number(bytes, CHECKED_LENGTH) != crc32(&bytes[..CHECKED_LENGTH]) {
-        return Err(Refusal::MessageCheck);
-    }
-    let train = bytes[1] as u64;
-    let place = number(bytes, 4) as u64;
-    let message = match bytes[0] {
+    let length = bytes.len();
+    let [kind, train, third, fourth, p0, p1, p2, p3, c0, c1, c2, c3] =
+        <[u8; MESSAGE_LENGTH]>::try_from(bytes).map_err(|_| Refusal::MessageLength { length })?;
+    check(
+        u32::from_le_bytes([c0, c1, c2, c3]) == crc32(&bytes[..CHECKED_LENGTH]),
+        Refusal::MessageCheck,
+    )?;
+    let train = u64::from(train);
+    let place = u64::from(u32::from_le_bytes([p0, p1, p2, p3]));
+    let message = match kind {
         REPORT => Message::Report { train, place },
         GRANT => Message::Grant { train, place },
         _ => return Err(Refusal::FirstByte),
     };
-    if bytes[2] != 0 {
-        return Err(Refusal::ThirdByte);
-    }
-    if bytes[3] != 0 {
-        return Err(Refusal::FourthByte);
-    }
+    check(third == 0, Refusal::ThirdByte)?;
+    check(fourth == 0, Refusal::FourthByte)?;
     message.check()?;
     Ok(message)
-}
-
-// The number that the four bytes from `at` on are, low byte first.
-fn number(bytes: &[u8], at: usize) -> u32
-    requires { at + 4 ≤ length bytes.now }
-    ensures { result ≡ number_at bytes.now at }
-{
-    u32::from_le_bytes([bytes[at], bytes[at + 1], bytes[at + 2], bytes[at + 3]])
 }

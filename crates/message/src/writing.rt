@@ -2,8 +2,7 @@
 ghost use Rattle.message.specs.Messages.{kind_of};
 ghost use Rattle.message.specs.Bytes.{received, written};
 ghost use Rattle.message.specs.Numbers.{numbers_written, written_numbers};
-ghost use Rattle.message.specs.declared.message.Received.TheVariants.{Heard};
-ghost use Rattle.std.specs.Prelude.{◌≡◌, IfOk};
+ghost use Rattle.std.specs.Prelude.{◌≡◌, IfOk, Ok};
 
 use crate::format::{GRANT, MESSAGE_LENGTH, REPORT};
 use crate::message::Message;
@@ -11,11 +10,11 @@ use braking::Refusal;
 use crc::crc32;
 
 impl Message {
-    // Its bytes, which are read as this message.
+    // Its bytes, which are read as this message. No `TryFrom`, for the reason that `read` has.
     pub fn write(self) -> Result<[u8; MESSAGE_LENGTH], Refusal>
         ensures value { result ≡ written self }
         ensures numbers { numbers_written result ≡ written_numbers self }
-        ensures heard { IfOk result (λ bytes. received bytes ≡ Heard self) }
+        ensures heard { IfOk result (λ bytes. received bytes ≡ Ok self) }
     {
         self.encoded()
     }

@@ -2,7 +2,7 @@
 use crate::vectors::{GRANTS, REFUSED, REPORTS, STREAM};
 use braking::Refusal;
 use crc::crc32;
-use message::{Message, Next, Received, next_message, read};
+use message::{Message, Next, next_message, read};
 use std::process::Abort;
 use std::test::Fail;
 
@@ -14,7 +14,7 @@ const FIRST: Message = Message::Report {
 
 // Bytes are turned away with this number and place.
 fn turned_away(rt: &impl Abort, bytes: &[u8], number: u64, place: u64) -> Result<(), Fail> {
-    let Received::TurnedAway(why) = read(bytes) else {
+    let Err(why) = read(bytes) else {
         return Err(Fail::new("heard"));
     };
     assert_eq!(rt; (why.number(), why.place()), (number, place));
@@ -23,34 +23,33 @@ fn turned_away(rt: &impl Abort, bytes: &[u8], number: u64, place: u64) -> Result
 
 fn there_and_back(rt: &impl Abort, message: Message, bytes: &[u8; 12]) {
     assert_eq!(rt; message.write(), Ok(*bytes));
-    assert_eq!(rt; read(bytes), Received::Heard(message));
+    assert_eq!(rt; read(bytes), Ok(message));
 }
 
 fn each_bit_counts(rt: &impl Abort, bytes: &[u8; 12]) -> Result<(), Fail> {
-    for at in 0..12 {
+    for (at, byte) in bytes.iter().enumerate() {
         for bit in [1, 2, 4, 8, 16, 32, 64, 128] {
             let mut changed = *bytes;
-            changed[at] ^= bit;
+            changed[at] = *byte ^ bit;
             turned_away(rt, &changed, 4, 8)?;
         }
     }
     Ok(())
 }
 
-fn next_is_cut(rt: &impl Abort, stream: &[u8]) -> Result<(), Fail> {
-    match next_message(stream) {
-        Next::Message { bytes, rest } => {
-            assert!(rt; stream.len() >= 12);
-            assert!(rt; bytes == &stream[..12]);
-            assert!(rt; rest == &stream[12..]);
-            Ok(())
+fn next_is_cut(rt: &impl Abort, stream: &[u8]) {
+    let wanted = if stream.len() < 12 {
+        Next {
+            message: None,
+            rest: stream,
         }
-        Next::Shorter { rest } => {
-            assert!(rt; stream.len() < 12);
-            assert!(rt; rest == stream);
-            Ok(())
+    } else {
+        Next {
+            message: Some(&stream[..12]),
+            rest: &stream[12..],
         }
-    }
+    };
+    assert_eq!(rt; next_message(stream), wanted);
 }
 
 #[test]
@@ -71,10 +70,7 @@ fn messages_there_and_back(rt: HostRuntime) {
 
 #[test]
 fn one_changed_bit_is_turned_away(rt: HostRuntime) -> Result<(), Fail> {
-    for (_, _, bytes) in REPORTS {
-        each_bit_counts(&rt, bytes)?;
-    }
-    for (_, _, bytes) in GRANTS {
+    for (_, _, bytes) in REPORTS.iter().chain(&GRANTS) {
         each_bit_counts(&rt, bytes)?;
     }
     Ok(())
@@ -91,49 +87,15 @@ fn first_refusal_is_the_answer(rt: HostRuntime) -> Result<(), Fail> {
 #[test]
 fn only_what_can_be_is_written(rt: HostRuntime) {
     let far = 1_000_000_001;
+    let report = |train, place| Message::Report { train, place };
+    let grant = |train, place| Message::Grant { train, place };
     let cases = [
-        (
-            Message::Report {
-                train: 64,
-                place: far,
-            },
-            Refusal::TrainTooHigh,
-        ),
-        (
-            Message::Report {
-                train: 256,
-                place: 0,
-            },
-            Refusal::TrainTooHigh,
-        ),
-        (
-            Message::Grant {
-                train: 64,
-                place: 0,
-            },
-            Refusal::TrainTooHigh,
-        ),
-        (
-            Message::Grant {
-                train: 0,
-                place: far,
-            },
-            Refusal::GrantToForemost,
-        ),
-        (
-            Message::Report {
-                train: 0,
-                place: far,
-            },
-            Refusal::PlaceTooFar,
-        ),
-        (
-            Message::Grant {
-                train: 63,
-                place: u64::MAX,
-            },
-            Refusal::PlaceTooFar,
-        ),
+        (report(64, far), Refusal::TrainTooHigh),
+        (report(256, 0), Refusal::TrainTooHigh),
+        (grant(64, 0), Refusal::TrainTooHigh),
+        (grant(0, far), Refusal::GrantToForemost),
+        (report(0, far), Refusal::PlaceTooFar),
+        (grant(63, u64::MAX), Refusal::PlaceTooFar),
     ];
     for (message, why) in cases {
         assert_eq!(rt; message.write(), Err(why));
@@ -141,20 +103,15 @@ fn only_what_can_be_is_written(rt: HostRuntime) {
 }
 
 #[test]
-fn every_length(rt: HostRuntime) -> Result<(), Fail> {
+fn every_length(rt: HostRuntime) {
     for length in 0..25 {
         let part = &STREAM[..length];
-        match read(part) {
-            Received::Heard(message) => {
-                assert_eq!(rt; length, 12);
-                assert_eq!(rt; message, FIRST);
-            }
-            Received::TurnedAway(why) => {
-                assert!(rt; length != 12);
-                assert_eq!(rt; why, Refusal::MessageLength { length });
-            }
-        }
-        next_is_cut(&rt, part)?;
+        let said = if length == 12 {
+            Ok(FIRST)
+        } else {
+            Err(Refusal::MessageLength { length })
+        };
+        assert_eq!(rt; read(part), said);
+        next_is_cut(&rt, part);
     }
-    Ok(())
 }

@@ -1,2 +1,1 @@
-pub mod Rules
 pub mod Trains

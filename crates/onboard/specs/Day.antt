@@ -1,19 +1,20 @@
 -- A day of a train, worked out by hand. Assumes nothing: these are definitions.
-use Rattle.std.specs.Prelude.{◌≡◌, ℕ, List, [], ◌∷◌, Some, None, Option}
+use Rattle.std.specs.Prelude.{◌≡◌, ℕ, List, [], ◌∷◌, Some, None, Option, Ok, Result}
+use Rattle.braking.specs.declared.refusal.Refusal.{Refusal}
 use Rattle.onboard.specs.declared.word.Word.{Word}
 use Rattle.onboard.specs.declared.word.Word.TheVariants.{Drive, Brake}
 use Rattle.onboard.specs.Steps.{asked}
 use Rattle.onboard.specs.Train.{Train, Event, tick, mark, take, fastest, after}
 
--- the unit's word to its driver at an event; only in a tick the driver wishes anything
-abbrev pub word_at : Train → Event → Option Word
+-- the unit's answer to its driver at an event; only in a tick the driver wishes anything
+abbrev pub word_at : Train → Event → Option (Result Word Refusal)
 word_at t (tick wish speed) = Some (asked t.unit wish)
 word_at t mark = None
 word_at t (take grant) = None
 
 -- what is seen of an event: the word, and then front, speed, low, high and end after it
 pub record Seen : Type 0 where
-  pub word : Option Word
+  pub word : Option (Result Word Refusal)
   pub front : ℕ
   pub speed : ℕ
   pub low : ℕ
@@ -21,7 +22,7 @@ pub record Seen : Type 0 where
   pub end : ℕ
 
 -- a row of the table at the end of this file
-abbrev pub row : Option Word → (front speed low high end : ℕ) → Seen
+abbrev pub row : Option (Result Word Refusal) → (front speed low high end : ℕ) → Seen
 row word front speed low high end = record { word = word; front = front; speed = speed; low = low; high = high; end = end }
 
 -- the row of one event
@@ -51,12 +52,12 @@ its_day = tick 5 5 ∷ tick 7 2 ∷ tick 4 4 ∷ take (record { train = 1; place
 abbrev pub WorkedDay : Type 0
 WorkedDay =
     (seen second_train its_day
-    ≡ row (Some Drive) 385 5 384 386 398
-    ∷ row (Some Brake) 387 2 385 389 398
-    ∷ row (Some Drive) 391 4 388 394 398
+    ≡ row (Some (Ok Drive)) 385 5 384 386 398
+    ∷ row (Some (Ok Brake)) 387 2 385 389 398
+    ∷ row (Some (Ok Drive)) 391 4 388 394 398
     ∷ row None 391 4 388 394 438
-    ∷ row (Some Drive) 395 4 391 399 438
-    ∷ row (Some Drive) 403 8 398 408 438
-    ∷ row (Some Brake) 408 5 402 414 438
+    ∷ row (Some (Ok Drive)) 395 4 391 399 438
+    ∷ row (Some (Ok Drive)) 403 8 398 408 438
+    ∷ row (Some (Ok Brake)) 408 5 402 414 438
     ∷ [])
     × AtTheFastest second_train its_day

@@ -1,15 +1,16 @@
 -- What is promised of every unit. Each is a statement, and stands on the contract of a function.
 use Rattle.std.specs.Prelude.{◌≡◌, ℕ, ◌+◌, ◌-◌, ◌≤◌, cond, Ok}
+use Rattle.braking.specs.Refusals.{done}
 use Rattle.braking.specs.Limits.{brakes_checked, speed_max, place_max}
 use Rattle.onboard.specs.declared.unit.Onboard.{Onboard}
 use Rattle.onboard.specs.declared.word.Word.TheVariants.{Drive, Brake}
 use Rattle.onboard.specs.Rule.{Needed}
-use Rattle.onboard.specs.Steps.{done, unit_lets, asked, tick_blur, after_tick, reported}
+use Rattle.onboard.specs.Steps.{unit_lets, asked, tick_blur, after_tick, reported}
 use Rattle.onboard.specs.Train.{Train, Event, tick, mark, Possible, front_after, unit_after, after, Known, CanStop, RearPast, Sound}
 
 -- no unit brakes without need
 abbrev pub BrakesOnlyIfNeeded : Type 0
-BrakesOnlyIfNeeded = (u : Onboard) (wish : ℕ) → asked u wish ≡ Brake → Needed u.brakes u.high u.end wish
+BrakesOnlyIfNeeded = (u : Onboard) (wish : ℕ) → asked u wish ≡ Ok Brake → Needed u.brakes u.high u.end wish
 
 -- what a unit knows stays true, whatever speed a tick has, unless the unit refuses the step
 abbrev pub KnownStays : Type 0
@@ -44,7 +45,7 @@ SoundStays = (t : Train) (e : Event) → Sound t → Possible t e → Sound (aft
 
 -- the unit of a sound train refuses no wish in range, no tick that can be, no mark and no report
 pub record Answers (t : Train) : Type 0 where
-  pub wishes : (wish : ℕ) → wish ≤ speed_max → asked t.unit wish ≡ cond (unit_lets t.unit wish) Drive Brake
+  pub wishes : (wish : ℕ) → wish ≤ speed_max → asked t.unit wish ≡ Ok (cond (unit_lets t.unit wish) Drive Brake)
   pub ticks : (wish speed : ℕ) → Possible t (tick wish speed) → done (unit_after t (tick wish speed)) ≡ Ok tt
   pub marks : done (unit_after t mark) ≡ Ok tt
   pub reports : reported t.unit ≡ Ok (t.unit.low - t.unit.length)

@@ -1,12 +1,12 @@
 -- When a driver may have a speed: the rule on bare numbers. Assumes nothing: these are definitions.
-use Rattle.std.specs.Prelude.{ℕ, ◌+◌, ◌<◌, Bool, true, false, cond, ◌||◌, Ok, Err, Result, ◌==◌, nat_le, nat_lt}
+use Rattle.std.specs.Prelude.{ℕ, ◌+◌, ◌<◌, Bool, cond, ◌||◌, Ok, Err, Result, ◌==◌, nat_le, nat_lt}
 use Rattle.braking.specs.declared.brakes.Brakes.{Brakes}
 use Rattle.braking.specs.declared.refusal.Refusal.{Refusal}
 use Rattle.braking.specs.Refusals.{◌then◌, listed}
 use Rattle.braking.specs.Limits.{brake_min, brake_max, blur_max, speed_max, place_max, brakes_checked, speed_checked, place_checked}
 use Rattle.braking.specs.Distance.{distance}
 use Rattle.onboard.specs.declared.word.Word.{Word}
-use Rattle.onboard.specs.declared.word.Word.TheVariants.{Drive, Brake, Refused}
+use Rattle.onboard.specs.declared.word.Word.TheVariants.{Drive, Brake}
 
 -- how far the front comes at most if it has the wish for a tick, from the high place on, and then brakes to a stand
 abbrev pub stopping_place : Brakes → (high wish : ℕ) → ℕ
@@ -16,26 +16,16 @@ stopping_place b high wish = high + wish + b.blur + distance b wish
 abbrev pub lets : Brakes → (high end wish : ℕ) → Bool
 lets b high end wish = wish == 0 || nat_le (stopping_place b high wish) end
 
--- whether the wish is let, or why that is not said: brakes, wish, high place and end are looked at in this order
-abbrev pub lets_checked : Brakes → (high end wish : ℕ) → Result Bool Refusal
-lets_checked b high end wish =
-    brakes_checked b then speed_checked wish then place_checked high then place_checked end then Ok (lets b high end wish)
+-- the word to the driver on a wish, or why there is none: brakes, wish, high place and end are looked at in this order
+abbrev pub word_on : Brakes → (high end wish : ℕ) → Result Word Refusal
+word_on b high end wish =
+    brakes_checked b then speed_checked wish then place_checked high then place_checked end then
+    Ok (cond (lets b high end wish) Drive Brake)
 
--- that as a word
-abbrev pub as_word : Result Bool Refusal → Word
-as_word (Ok true) = Drive
-as_word (Ok false) = Brake
-as_word (Err why) = Refused why
-
--- the word to the driver on a wish
-abbrev pub word_on : Brakes → (high end wish : ℕ) → Word
-word_on b high end wish = as_word (lets_checked b high end wish)
-
--- the number and the place of a word in the list of refusals; 0 and 0 if it is no refusal
-abbrev pub word_listed : Word → ℕ × ℕ
-word_listed Drive = (0, 0)
-word_listed Brake = (0, 0)
-word_listed (Refused why) = listed why
+-- the number and the place of an answer in the list of refusals; 0 and 0 if it is a word
+abbrev pub word_listed : Result Word Refusal → ℕ × ℕ
+word_listed (Ok word) = (0, 0)
+word_listed (Err why) = listed why
 
 -- rows 1 to 3 of the list, from the top: the number and the place of the first that applies; 0 and 0 if none does
 abbrev pub first_refusal : (brake blur high end wish : ℕ) → ℕ × ℕ

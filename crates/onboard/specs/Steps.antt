@@ -1,30 +1,20 @@
 -- What each step makes of a unit, and what it answers. Assumes nothing: these are definitions.
-use Rattle.std.specs.Prelude.{ℕ, ◌+◌, ◌-◌, Bool, cond, Ok, Err, Result, ◌==◌, nat_lt}
+use Rattle.std.specs.Prelude.{ℕ, ◌+◌, ◌-◌, Bool, cond, max, Ok, Result, ◌==◌}
 use Rattle.braking.specs.declared.brakes.Brakes.{Brakes}
 use Rattle.braking.specs.declared.refusal.Refusal.{Refusal}
 use Rattle.braking.specs.declared.refusal.Refusal.TheVariants.{OtherTrain}
-use Rattle.braking.specs.Refusals.{Checked, check, ◌then◌}
+use Rattle.braking.specs.Refusals.{check, ◌then◌}
 use Rattle.braking.specs.Limits.{brakes_checked, speed_checked, place_checked}
 use Rattle.onboard.specs.declared.unit.Onboard.{Onboard}
 use Rattle.onboard.specs.declared.unit.Grant.{Grant}
 use Rattle.onboard.specs.declared.word.Word.{Word}
 use Rattle.onboard.specs.Rule.{lets, word_on}
 
--- the unit after a step: what the step makes of it, or as it was where the step refuses
-abbrev pub kept : Onboard → Result Onboard Refusal → Onboard
-kept u (Ok next) = next
-kept u (Err why) = u
-
--- what such a step answers: done, or why it refuses
-abbrev pub done : Result Onboard Refusal → Checked
-done (Ok next) = Ok tt
-done (Err why) = Err why
-
--- whether the unit lets its driver have the wish, and what it says; it looks at the speed that is wished, and not at its own
+-- whether the unit lets its driver have the wish, and what it answers; it looks at the speed that is wished, and not at its own
 abbrev pub unit_lets : Onboard → ℕ → Bool
 unit_lets u wish = lets u.brakes u.high u.end wish
 
-abbrev pub asked : Onboard → ℕ → Word
+abbrev pub asked : Onboard → ℕ → Result Word Refusal
 asked u wish = word_on u.brakes u.high u.end wish
 
 -- how much worse a tick makes the knowledge of the place, either way: by the blur if it moves
@@ -54,12 +44,8 @@ after_mark u place =
 abbrev pub reported : Onboard → Result ℕ Refusal
 reported u = place_checked u.low then Ok (u.low - u.length)
 
--- the farther of two places
-abbrev pub farther : ℕ → ℕ → ℕ
-farther a b = cond (nat_lt a b) b a
-
 -- with a grant, which only the train that it is for takes: the end becomes the grant's place, if that is farther
 abbrev pub after_take : Onboard → Grant → Result Onboard Refusal
 after_take u grant =
     place_checked grant.place then check (grant.train == u.train) (OtherTrain grant.train) then
-    Ok (record { train = u.train; brakes = u.brakes; length = u.length; speed = u.speed; low = u.low; high = u.high; end = farther u.end grant.place })
+    Ok (record { train = u.train; brakes = u.brakes; length = u.length; speed = u.speed; low = u.low; high = u.high; end = max u.end grant.place })

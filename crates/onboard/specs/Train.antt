@@ -1,14 +1,15 @@
 -- A train in truth, what happens to it, and what should hold of it. These are definitions. They take it for granted that a
 -- train has the length, the brakes and, after a tick, the speed that its unit is told, and that a mark tells the true place.
-use Rattle.std.specs.Prelude.{◌≡◌, ℕ, ◌+◌, ◌-◌, ◌≤◌, Ok, Result}
+use Rattle.std.specs.Prelude.{◌≡◌, ℕ, ◌+◌, ◌-◌, ◌≤◌, Ok, Err, Result}
 use Rattle.braking.specs.declared.refusal.Refusal.{Refusal}
+use Rattle.braking.specs.Refusals.{kept}
 use Rattle.braking.specs.Limits.{brakes_checked, speed_max, place_max}
 use Rattle.braking.specs.Distance.{distance}
 use Rattle.onboard.specs.declared.unit.Onboard.{Onboard}
 use Rattle.onboard.specs.declared.unit.Grant.{Grant}
 use Rattle.onboard.specs.declared.word.Word.{Word}
-use Rattle.onboard.specs.declared.word.Word.TheVariants.{Drive, Brake, Refused}
-use Rattle.onboard.specs.Steps.{kept, asked, after_tick, after_mark, after_take}
+use Rattle.onboard.specs.declared.word.Word.TheVariants.{Drive, Brake}
+use Rattle.onboard.specs.Steps.{asked, after_tick, after_mark, after_take}
 
 -- where the front is in truth, and the train's unit
 pub record Train : Type 0 where
@@ -21,11 +22,11 @@ pub data Event : Type 0 where
   mark : Event
   take : Grant → Event
 
--- how fast a word lets a train be, with this wish and what braking leaves at most: a refused wish is not let
-abbrev pub allowed : Word → (wish left : ℕ) → ℕ
-allowed Drive wish left = wish
-allowed Brake wish left = left
-allowed (Refused why) wish left = left
+-- how fast the answer lets a train be, with this wish and what braking leaves at most: a refused wish is not let
+abbrev pub allowed : Result Word Refusal → (wish left : ℕ) → ℕ
+allowed (Ok Drive) wish left = wish
+allowed (Ok Brake) wish left = left
+allowed (Err why) wish left = left
 
 -- the highest speed that a tick can have
 abbrev pub fastest : Onboard → ℕ → ℕ

@@ -31,27 +31,25 @@ fn braked(brake: u64, blur: u64) -> Onboard {
     }
 }
 
-// A refusal has this number and place, and the unit is as it was.
-fn refused(
+// The step is refused with this number and place, and the unit is as it was.
+fn refused<T: Drop>(
     rt: &impl Abort,
     before: Onboard,
-    after: Onboard,
-    why: Option<Refusal>,
+    step: (Onboard, Result<T, Refusal>),
     listed: (u64, u64),
 ) -> Result<(), Fail> {
-    let Some(why) = why else {
+    let (after, Err(why)) = step else {
         return Err(Fail::new("not refused"));
     };
     assert_eq!(rt; after, before);
-    assert_eq!(rt; why.number(), listed.0);
-    assert_eq!(rt; why.place(), listed.1);
+    assert_eq!(rt; (why.number(), why.place()), listed);
     Ok(())
 }
 
 // Ticks at these wishes: the word, and the unit's speed, low and high after each.
-fn drive(rt: &impl Abort, mut unit: Onboard, ticks: [(u64, Word, u64, u64, u64); 3]) -> Onboard {
-    for (wish, word, speed, low, high) in ticks {
-        assert_eq!(rt; unit.ask(wish).1, word);
+fn drive(rt: &impl Abort, mut unit: Onboard, ticks: &[(u64, Word, u64, u64, u64)]) -> Onboard {
+    for &(wish, word, speed, low, high) in ticks {
+        assert_eq!(rt; unit.ask(wish).1, Ok(word));
         let before = unit;
         unit = unit.moved(speed).0;
         assert_eq!(rt;
@@ -74,7 +72,7 @@ fn day_of_the_second_train(rt: HostRuntime) {
         (7, Word::Brake, 2, 385, 389),
         (4, Word::Drive, 4, 388, 394),
     ];
-    let noon = drive(&rt, SECOND, morning);
+    let noon = drive(&rt, SECOND, &morning);
     let granted = noon.take(GRANT).0;
     assert_eq!(rt; granted, Onboard { end: 438, ..noon });
     let evening = [
@@ -82,7 +80,7 @@ fn day_of_the_second_train(rt: HostRuntime) {
         (8, Word::Drive, 8, 398, 408),
         (12, Word::Brake, 5, 402, 414),
     ];
-    let night = drive(&rt, granted, evening);
+    let night = drive(&rt, granted, &evening);
     assert_eq!(rt; night.moved(0).0, Onboard { speed: 0, ..night });
     assert_eq!(rt; night.report().1, Ok(322));
     assert_eq!(rt;
@@ -98,9 +96,9 @@ fn day_of_the_second_train(rt: HostRuntime) {
 // From speed 5 braking takes 3: 380, 5, 1 and 3 are 389.
 #[test]
 fn end_is_reached_and_not_passed(rt: HostRuntime) {
-    assert_eq!(rt; may_drive(3, 1, 380, 389, 5), Word::Drive);
-    assert_eq!(rt; may_drive(3, 1, 380, 388, 5), Word::Brake);
-    assert_eq!(rt; may_drive(3, 1, 380, 0, 0), Word::Drive);
+    assert_eq!(rt; may_drive(3, 1, 380, 389, 5), Ok(Word::Drive));
+    assert_eq!(rt; may_drive(3, 1, 380, 388, 5), Ok(Word::Brake));
+    assert_eq!(rt; may_drive(3, 1, 380, 0, 0), Ok(Word::Drive));
 }
 
 #[test]
@@ -146,17 +144,10 @@ fn wishes_refused(rt: HostRuntime) -> Result<(), Fail> {
         (Onboard { high: 0, ..too_far }, 0, (3, 0)),
     ];
     for (unit, wish, listed) in cases {
-        let (after, word) = unit.ask(wish);
-        let why = match word {
-            Word::Refused(why) => Some(why),
-            Word::Drive | Word::Brake => None,
-        };
-        refused(&rt, unit, after, why, listed)?;
-        let brakes = unit.brakes;
-        assert_eq!(rt;
-            may_drive(brakes.brake, brakes.blur, unit.high, unit.end, wish),
-            word
-        );
+        refused(&rt, unit, unit.ask(wish), listed)?;
+        let Brakes { brake, blur } = unit.brakes;
+        let word = may_drive(brake, blur, unit.high, unit.end, wish);
+        assert_eq!(rt; word, unit.ask(wish).1);
     }
     Ok(())
 }
@@ -190,8 +181,7 @@ fn ticks_refused(rt: HostRuntime) -> Result<(), Fail> {
         ),
     ];
     for (unit, speed, listed) in cases {
-        let (after, answer) = unit.moved(speed);
-        refused(&rt, unit, after, answer.err(), listed)?;
+        refused(&rt, unit, unit.moved(speed), listed)?;
     }
     assert_eq!(rt; last.moved(0), (last, Ok(())));
     Ok(())
@@ -199,22 +189,19 @@ fn ticks_refused(rt: HostRuntime) -> Result<(), Fail> {
 
 #[test]
 fn marks_reports_and_grants_refused(rt: HostRuntime) -> Result<(), Fail> {
-    let (after, answer) = SECOND.mark(FARTHEST + 1);
-    refused(&rt, SECOND, after, answer.err(), (3, 0))?;
+    refused(&rt, SECOND, SECOND.mark(FARTHEST + 1), (3, 0))?;
     let lost = Onboard {
         low: FARTHEST + 1,
         ..SECOND
     };
-    let (after, answer) = lost.report();
-    refused(&rt, lost, after, answer.err(), (3, 0))?;
+    refused(&rt, lost, lost.report(), (3, 0))?;
     let cases = [
         (2, 438, (7, 2)),
         (0, FARTHEST, (7, 0)),
         (2, FARTHEST + 1, (3, 0)),
     ];
     for (train, place, listed) in cases {
-        let (after, answer) = SECOND.take(Grant { train, place });
-        refused(&rt, SECOND, after, answer.err(), listed)?;
+        refused(&rt, SECOND, SECOND.take(Grant { train, place }), listed)?;
     }
     Ok(())
 }

@@ -1,10 +1,11 @@
 // The unit, and its steps: each hands the unit back, with what it answers. A step that refuses hands it back as it was.
-ghost use Rattle.onboard.specs.Rule.{lets_checked};
-ghost use Rattle.onboard.specs.Steps.{asked, kept, done, after_tick, after_mark, after_take, reported};
+ghost use Rattle.braking.specs.Refusals.{done, kept};
+ghost use Rattle.onboard.specs.Steps.{after_mark, after_take, after_tick, asked, reported};
 ghost use Rattle.std.specs.Prelude.{◌≡◌};
 
 use crate::word::Word;
 use braking::limits::{check_place, check_speed};
+use braking::refusal::{check, handed_back};
 use braking::{Brakes, Refusal};
 
 // What the computer on a train knows. Plain numbers that may lie in memory lent from elsewhere and
@@ -25,7 +26,8 @@ pub struct Onboard {
     pub end: u64,
 }
 
-// Says to a train how far its front may go.
+// Says to a train how far its front may go. This layer knows nothing of messages; the cases of `Message` hold their numbers
+// themselves, as was asked.
 #[derive(Clone, Copy, PartialEq, Eq, Debug)]
 pub struct Grant {
     pub train: u64,
@@ -34,14 +36,11 @@ pub struct Grant {
 
 impl Onboard {
     // May the driver have `wish` in the next tick?
-    pub fn ask(self, wish: u64) -> (Self, Word)
+    pub fn ask(self, wish: u64) -> (Self, Result<Word, Refusal>)
         ensures state { result.0 ≡ self }
         ensures word { result.1 ≡ asked self wish }
     {
-        match self.lets(wish) {
-            Ok(allowed) => (self, if allowed { Word::Drive } else { Word::Brake }),
-            Err(why) => (self, Word::Refused(why)),
-        }
+        (self, self.asked(wish))
     }
 
     // A tick is over, and the front came by `speed`.
@@ -49,7 +48,7 @@ impl Onboard {
         ensures state { result.0 ≡ kept self (after_tick self speed) }
         ensures word { result.1 ≡ done (after_tick self speed) }
     {
-        self.handed_back(self.after_tick(speed))
+        handed_back(self, self.after_tick(speed))
     }
 
     // The front passes a mark, which tells its place.
@@ -57,7 +56,7 @@ impl Onboard {
         ensures state { result.0 ≡ kept self (after_mark self place) }
         ensures word { result.1 ≡ done (after_mark self place) }
     {
-        self.handed_back(self.after_mark(place))
+        handed_back(self, self.after_mark(place))
     }
 
     // The place that the train's rear is not behind.
@@ -73,17 +72,18 @@ impl Onboard {
         ensures state { result.0 ≡ kept self (after_take self grant) }
         ensures word { result.1 ≡ done (after_take self grant) }
     {
-        self.handed_back(self.after_take(grant))
+        handed_back(self, self.after_take(grant))
     }
 
     // It looks at the speed that is wished, not at the one that the train has.
-    fn lets(self, wish: u64) -> Result<bool, Refusal>
-        ensures { result ≡ lets_checked self.brakes self.high self.end wish }
+    fn asked(self, wish: u64) -> Result<Word, Refusal>
+        ensures { result ≡ asked self wish }
     {
         let distance = self.brakes.braking_distance(wish)?;
         check_place(self.high)?;
         check_place(self.end)?;
-        Ok(wish == 0 || self.high + wish + self.brakes.blur + distance <= self.end)
+        let lets = wish == 0 || self.high + wish + self.brakes.blur + distance <= self.end;
+        Ok(if lets { Word::Drive } else { Word::Brake })
     }
 
     fn after_tick(self, speed: u64) -> Result<Self, Refusal>
@@ -128,22 +128,13 @@ impl Onboard {
         ensures { result ≡ after_take self grant }
     {
         check_place(grant.place)?;
-        if grant.train != self.train {
-            return Err(Refusal::OtherTrain { train: grant.train });
-        }
+        check(
+            grant.train == self.train,
+            Refusal::OtherTrain { train: grant.train },
+        )?;
         Ok(Onboard {
             end: self.end.max(grant.place),
             ..self
         })
-    }
-
-    fn handed_back(self, after: Result<Self, Refusal>) -> (Self, Result<(), Refusal>)
-        ensures state { result.0 ≡ kept self after }
-        ensures word { result.1 ≡ done after }
-    {
-        match after {
-            Ok(next) => (next, Ok(())),
-            Err(why) => (self, Err(why)),
-        }
     }
 }

@@ -4,7 +4,6 @@ use Rattle.braking.specs.Refusals.{kept, done}
 use Rattle.braking.specs.Limits.{train_max, place_max}
 use Rattle.onboard.specs.declared.unit.Onboard.{Onboard}
 use Rattle.message.specs.declared.message.Message.TheVariants.{Report, Grant}
-use Rattle.message.specs.declared.message.Received.TheVariants.{Heard}
 use Rattle.message.specs.Bytes.{received}
 use Rattle.message.specs.Numbers.{numbers_done, read_numbers}
 use Rattle.controller.specs.declared.controller.Controller.{Controller}
@@ -15,15 +14,15 @@ use Rattle.radio.specs.Ends.{after_taking, after_hearing, report_bytes, tell_byt
 -- what is sent is heard as what it says: a unit's low place less its length, and what a controller knows of a train
 abbrev pub ReportHeard : Type 0
 ReportHeard =
-    (u : Onboard) (bytes : List ℕ) → report_bytes u ≡ Ok bytes → received bytes ≡ Heard (Report u.train (u.low - u.length))
+    (u : Onboard) (bytes : List ℕ) → report_bytes u ≡ Ok bytes → received bytes ≡ Ok (Report u.train (u.low - u.length))
 
 abbrev pub TellHeard : Type 0
 TellHeard =
-    (c : Controller) (train : ℕ) (bytes : List ℕ) → tell_bytes c train ≡ Ok bytes → received bytes ≡ Heard (Report train (known c train))
+    (c : Controller) (train : ℕ) (bytes : List ℕ) → tell_bytes c train ≡ Ok bytes → received bytes ≡ Ok (Report train (known c train))
 
 abbrev pub GrantHeard : Type 0
 GrantHeard =
-    (c : Controller) (train : ℕ) (bytes : List ℕ) → grant_bytes c train ≡ Ok bytes → received bytes ≡ Heard (Grant (train + 1) (known c train))
+    (c : Controller) (train : ℕ) (bytes : List ℕ) → grant_bytes c train ≡ Ok bytes → received bytes ≡ Ok (Grant (train + 1) (known c train))
 
 -- what a unit answers to bytes, in bare numbers: the row of the list by which they are no message; else, for a grant
 -- (kind 2) to another train, 7 and that train; else 0

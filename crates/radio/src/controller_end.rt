@@ -3,10 +3,11 @@ ghost use Rattle.braking.specs.Refusals.{done, kept};
 ghost use Rattle.radio.specs.Ends.{after_hearing, grant_bytes, tell_bytes};
 ghost use Rattle.std.specs.Prelude.{◌≡◌};
 
+use crate::sending::sent;
 use braking::Refusal;
 use controller::Controller;
 use message::format::MESSAGE_LENGTH;
-use message::{Received, read};
+use message::read;
 
 // Bytes have come: the controller hears the message that they are.
 pub fn hear(controller: Controller, bytes: &[u8]) -> (Controller, Result<(), Refusal>)
@@ -14,8 +15,8 @@ pub fn hear(controller: Controller, bytes: &[u8]) -> (Controller, Result<(), Ref
     ensures word { result.1 ≡ done (after_hearing controller bytes.now) }
 {
     match read(bytes) {
-        Received::Heard(message) => controller.hear(message),
-        Received::TurnedAway(why) => (controller, Err(why)),
+        Ok(message) => controller.hear(message),
+        Err(why) => (controller, Err(why)),
     }
 }
 
@@ -27,7 +28,7 @@ pub fn tell(
     ensures state { result.0 ≡ controller }
     ensures word { result.1 ≡ tell_bytes controller train }
 {
-    (controller, tell_bytes(controller, train))
+    sent(controller.tell(train))
 }
 
 // What it knows of a train, as the bytes of a grant to the train behind.
@@ -38,17 +39,5 @@ pub fn grant(
     ensures state { result.0 ≡ controller }
     ensures word { result.1 ≡ grant_bytes controller train }
 {
-    (controller, grant_bytes(controller, train))
-}
-
-fn tell_bytes(controller: Controller, train: u64) -> Result<[u8; MESSAGE_LENGTH], Refusal>
-    ensures { result ≡ tell_bytes controller train }
-{
-    controller.tell(train).1?.write()
-}
-
-fn grant_bytes(controller: Controller, train: u64) -> Result<[u8; MESSAGE_LENGTH], Refusal>
-    ensures { result ≡ grant_bytes controller train }
-{
-    controller.grant(train).1?.write()
+    sent(controller.grant(train))
 }

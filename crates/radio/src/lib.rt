@@ -3,6 +3,7 @@
 
 pub mod controller_end;
 pub mod laws;
+mod sending;
 pub mod unit_end;
 
 pub use controller_end::{grant, hear, tell};

@@ -3,9 +3,10 @@ ghost use Rattle.braking.specs.Refusals.{done, kept};
 ghost use Rattle.radio.specs.Ends.{after_taking, report_bytes};
 ghost use Rattle.std.specs.Prelude.{◌≡◌};
 
+use crate::sending::sent;
 use braking::Refusal;
 use message::format::MESSAGE_LENGTH;
-use message::{Message, Received, read};
+use message::{Message, read};
 use onboard::{Grant, Onboard};
 
 // Bytes have come: the unit takes the grant that they are. A report is for controllers, and changes nothing.
@@ -14,9 +15,9 @@ pub fn take(unit: Onboard, bytes: &[u8]) -> (Onboard, Result<(), Refusal>)
     ensures word { result.1 ≡ done (after_taking unit bytes.now) }
 {
     match read(bytes) {
-        Received::Heard(Message::Grant { train, place }) => unit.take(Grant { train, place }),
-        Received::Heard(Message::Report { .. }) => (unit, Ok(())),
-        Received::TurnedAway(why) => (unit, Err(why)),
+        Ok(Message::Grant { train, place }) => unit.take(Grant { train, place }),
+        Ok(Message::Report { .. }) => (unit, Ok(())),
+        Err(why) => (unit, Err(why)),
     }
 }
 
@@ -24,13 +25,7 @@ pub fn report(unit: Onboard) -> (Onboard, Result<[u8; MESSAGE_LENGTH], Refusal>)
     ensures state { result.0 ≡ unit }
     ensures word { result.1 ≡ report_bytes unit }
 {
-    (unit, report_bytes(unit))
-}
-
-fn report_bytes(unit: Onboard) -> Result<[u8; MESSAGE_LENGTH], Refusal>
-    ensures { result ≡ report_bytes unit }
-{
     let train = unit.train;
-    let place = unit.report().1?;
-    Message::Report { train, place }.write()
+    let (next, place) = unit.report();
+    sent((next, place.map(|place| Message::Report { train, place })))
 }

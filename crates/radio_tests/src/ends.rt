@@ -51,7 +51,7 @@ fn grants_are_for_units(rt: HostRuntime) {
     for (train, place, bytes) in GRANTS {
         assert_eq!(rt; radio::hear(controller, bytes), (controller, Ok(())));
         let own = Onboard { train, ..SECOND };
-        let end = if place > 398 { place } else { 398 };
+        let end = place.max(398);
         assert_eq!(rt; radio::take(own, bytes), (Onboard { end, ..own }, Ok(())));
         let other = Refusal::OtherTrain { train };
         assert_eq!(rt; radio::take(FIRST, bytes), (FIRST, Err(other)));

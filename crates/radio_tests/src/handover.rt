@@ -2,6 +2,7 @@
 use crate::states::{FIRST, SECOND};
 use braking::Refusal;
 use controller::Controller;
+use entries::{controller_entry, unit_entry};
 use message::format::MESSAGE_LENGTH;
 use onboard::Onboard;
 use std::process::Abort;
@@ -10,20 +11,17 @@ use std::test::Fail;
 type Bytes = [u8; MESSAGE_LENGTH];
 
 fn sent(answer: Result<Bytes, Refusal>) -> Result<Bytes, Fail> {
-    match answer {
-        Ok(bytes) => Ok(bytes),
-        Err(_) => Err(Fail::new("not sent")),
-    }
+    answer.map_err(|_| Fail::new("not sent"))
 }
 
 fn hear(rt: &impl Abort, controller: &mut Controller, bytes: Bytes) {
-    assert_eq!(rt; entries::controller_entry::hear(controller, &bytes), Ok(()));
+    assert_eq!(rt; controller_entry::hear(controller, &bytes), Ok(()));
 }
 
 // The controller grants by what it knows of train 0, and train 1 takes it.
 fn grant(rt: &impl Abort, controller: &mut Controller, unit: &mut Onboard) -> Result<(), Fail> {
-    let bytes = sent(entries::controller_entry::grant(controller, 0))?;
-    assert_eq!(rt; entries::unit_entry::take(unit, &bytes), Ok(()));
+    let bytes = sent(controller_entry::grant(controller, 0))?;
+    assert_eq!(rt; unit_entry::take(unit, &bytes), Ok(()));
     Ok(())
 }
 
@@ -35,17 +33,17 @@ fn old_report_takes_nothing_back(rt: HostRuntime) -> Result<(), Fail> {
     let mut upper = Controller::new();
 
     // The lower controller hears the rear at 400; the train goes on, and the upper one hears it at 438.
-    let old = sent(entries::unit_entry::report(&mut ahead))?;
+    let old = sent(unit_entry::report(&mut ahead))?;
     hear(&rt, &mut lower, old);
-    assert_eq!(rt; entries::unit_entry::moved(&mut ahead, 20), Ok(()));
-    assert_eq!(rt; entries::unit_entry::moved(&mut ahead, 20), Ok(()));
-    let young = sent(entries::unit_entry::report(&mut ahead))?;
+    assert_eq!(rt; unit_entry::moved(&mut ahead, 20), Ok(()));
+    assert_eq!(rt; unit_entry::moved(&mut ahead, 20), Ok(()));
+    let young = sent(unit_entry::report(&mut ahead))?;
     hear(&rt, &mut upper, young);
     grant(&rt, &mut upper, &mut behind)?;
     assert_eq!(rt; behind.end, 438);
 
     // At the handover the lower controller tells the upper one what it knows, and the old report itself comes too.
-    let handed_over = sent(entries::controller_entry::tell(&mut lower, 0))?;
+    let handed_over = sent(controller_entry::tell(&mut lower, 0))?;
     assert!(rt; handed_over == old);
     hear(&rt, &mut upper, handed_over);
     hear(&rt, &mut upper, old);
@@ -54,7 +52,7 @@ fn old_report_takes_nothing_back(rt: HostRuntime) -> Result<(), Fail> {
     assert_eq!(rt; behind.end, 438);
 
     // The upper controller restarts and hears only the old one: it grants less, and the unit keeps its end.
-    entries::controller_entry::restart(&mut upper);
+    controller_entry::restart(&mut upper);
     hear(&rt, &mut upper, old);
     assert_eq!(rt; upper.heard[0], 400);
     let before = behind;

@@ -3,8 +3,10 @@
 use crate::states::{FARTHEST, FIRST, SECOND, heard};
 use braking::Brakes;
 use controller::Controller;
+use entries::{controller_entry, unit_entry};
 use message_tests::vectors::{GRANTS, REFUSED, REPORTS};
 use onboard::Onboard;
+use std::fmt::Debug;
 use std::process::Abort;
 
 // Units as they should be, and units whose memory holds something else.
@@ -45,22 +47,47 @@ fn controllers() -> [Controller; 3] {
     [Controller::new(), heard(400, FARTHEST), broken]
 }
 
+// The entry leaves in the lent state what the step hands back, and answers what the step answers.
+fn alike<S, A, F>(rt: &impl Abort, state: S, entry: F, step: (S, A))
+where
+    S: Copy + PartialEq + Debug,
+    A: Copy + PartialEq + Debug,
+    F: FnOnce(&mut S) -> A,
+    requires { F.IsAlwaysCallable entry }
+{
+    let mut lent = state;
+    let answer = entry(&mut lent);
+    assert_eq!(rt; (lent, answer), step);
+}
+
 fn unit_told(rt: &impl Abort, unit: Onboard, number: u64) {
-    let mut lent = unit;
-    let word = entries::unit_entry::ask(&mut lent, number);
-    assert_eq!(rt; (lent, word), unit.ask(number));
-    let mut lent = unit;
-    let answer = entries::unit_entry::moved(&mut lent, number);
-    assert_eq!(rt; (lent, answer), unit.moved(number));
-    let mut lent = unit;
-    let answer = entries::unit_entry::mark(&mut lent, number);
-    assert_eq!(rt; (lent, answer), unit.mark(number));
+    alike(
+        rt,
+        unit,
+        |lent| unit_entry::ask(lent, number),
+        unit.ask(number),
+    );
+    alike(
+        rt,
+        unit,
+        |lent| unit_entry::moved(lent, number),
+        unit.moved(number),
+    );
+    alike(
+        rt,
+        unit,
+        |lent| unit_entry::mark(lent, number),
+        unit.mark(number),
+    );
 }
 
 fn unit_handed(rt: &impl Abort, unit: Onboard, bytes: &[u8]) {
-    let mut lent = unit;
-    let answer = entries::unit_entry::take(&mut lent, bytes);
-    assert_eq!(rt; (lent, answer), radio::take(unit, bytes));
+    alike(
+        rt,
+        unit,
+        |lent| unit_entry::take(lent, bytes),
+        radio::take(unit, bytes),
+    );
 }
 
 #[test]
@@ -79,25 +106,32 @@ fn lent_units(rt: HostRuntime) {
         for (bytes, _, _) in REFUSED {
             unit_handed(&rt, unit, bytes);
         }
-        let mut lent = unit;
-        let answer = entries::unit_entry::report(&mut lent);
-        assert_eq!(rt; (lent, answer), radio::report(unit));
+        alike(&rt, unit, unit_entry::report, radio::report(unit));
     }
 }
 
 fn controller_asked(rt: &impl Abort, controller: Controller, train: u64) {
-    let mut lent = controller;
-    let answer = entries::controller_entry::tell(&mut lent, train);
-    assert_eq!(rt; (lent, answer), radio::tell(controller, train));
-    let mut lent = controller;
-    let answer = entries::controller_entry::grant(&mut lent, train);
-    assert_eq!(rt; (lent, answer), radio::grant(controller, train));
+    alike(
+        rt,
+        controller,
+        |lent| controller_entry::tell(lent, train),
+        radio::tell(controller, train),
+    );
+    alike(
+        rt,
+        controller,
+        |lent| controller_entry::grant(lent, train),
+        radio::grant(controller, train),
+    );
 }
 
 fn controller_handed(rt: &impl Abort, controller: Controller, bytes: &[u8]) {
-    let mut lent = controller;
-    let answer = entries::controller_entry::hear(&mut lent, bytes);
-    assert_eq!(rt; (lent, answer), radio::hear(controller, bytes));
+    alike(
+        rt,
+        controller,
+        |lent| controller_entry::hear(lent, bytes),
+        radio::hear(controller, bytes),
+    );
 }
 
 #[test]
@@ -116,8 +150,11 @@ fn lent_controllers(rt: HostRuntime) {
         for (bytes, _, _) in REFUSED {
             controller_handed(&rt, controller, bytes);
         }
-        let mut lent = controller;
-        entries::controller_entry::restart(&mut lent);
-        assert_eq!(rt; (lent, ()), controller.restart());
+        alike(
+            &rt,
+            controller,
+            controller_entry::restart,
+            controller.restart(),
+        );
     }
 }

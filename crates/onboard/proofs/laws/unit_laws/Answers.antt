@@ -1,17 +1,17 @@
-use Rattle.onboard.proofs.Rules as r
 use Rattle.onboard.proofs.Trains as t
 use Rattle.onboard.proofs.laws.unit_laws.Goals as goal
 
-pub returns : goal.returns
-returns c = record {
-  brakes_only_if_needed = r.brakes_only_if_needed;
-  known_stays = t.known_stays;
-  known_within_blur = t.known_within_blur;
-  can_stop_stays = t.can_stop_stays;
-  standing_sound = t.standing_sound;
-  sound_stays = t.sound_stays;
-  sound_answers = t.sound_answers;
-  report_true = t.report_true;
-  rear_past_stays = t.rear_past_stays;
-  worked_day = t.worked_day;
-}
+pub returns-clause-can_stop_stays : goal.returns-clause-can_stop_stays
+returns-clause-can_stop_stays c = t.can_stop_stays
+
+pub returns-clause-standing_sound : goal.returns-clause-standing_sound
+returns-clause-standing_sound c = t.standing_sound
+
+pub returns-clause-sound_stays : goal.returns-clause-sound_stays
+returns-clause-sound_stays c = t.sound_stays
+
+pub returns-clause-sound_answers : goal.returns-clause-sound_answers
+returns-clause-sound_answers c = t.sound_answers
+
+pub returns-clause-worked_day : goal.returns-clause-worked_day
+returns-clause-worked_day c = t.worked_day
