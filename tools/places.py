@@ -24,7 +24,7 @@ LINES = [
     ("3 variables that change", r"\blet mut |\(mut |, mut "),
     ("3 indices written as numbers, lengths compared", r"\[\d+\]|\[\w+ \+ \d+\]|\.len\(\) ?([<>]|[=!]=)"),
     ("4 impls", r"^\s*impl\b.* for "),
-    ("4 conversions", r" as (u8|u16|u32|u64|usize)\b|Err\(_\) =>|Ok\((\w+)\) => (Ok|Some)\(|\((\w+)\) => Some\(\3\)"),
+    ("4 conversions", r" as (u8|u16|u32|u64|usize)\b|Err\(_\) =>|Ok\((\w+)\) => (Ok|Some)\(|\((\w+)\) => Some\(\4\)"),
     ("4 comparisons that choose", r"if (\w+) [<>]=? (\w+) \{ (\1|\2) \} else"),
     ("6 arrays and lengths", r"\[[^\]]+; [A-Z_0-9]+\]|\blen(gth)?: (usize|u64)"),
     ("7 steps as values", r"\bFn(Once|Mut)?\b|\bdyn\b|\bfn\(|\|[\w, ]+\| |and_then\("),

@@ -85,7 +85,7 @@ impl Refusal {
     }
 }
 
-// Passes where it holds, and else refuses.
+// A check: passes where its test holds, and else refuses for the reason given.
 pub fn check(holds: bool, why: Refusal) -> Result<(), Refusal>
     ensures { result ≡ check holds why }
 {

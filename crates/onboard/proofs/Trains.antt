@@ -24,24 +24,23 @@ tick_stops u wish (suc v) hb s p =
     ]
 
 pub can_stop_stays : CanStopStays
-can_stop_stays t (tick wish speed) next k s p ok =
-    let h = tick_stops t.unit wish speed (grind (arith, nat_tests)) s p in grind (arith, nat_tests)
+can_stop_stays t (tick wish speed) next k s p ok = grind (arith, nat_tests, tick_stops t.unit wish speed)
 can_stop_stays t e next k s p ok = grind (arith, nat_tests)
 
 pub sound_answers : SoundAnswers
 sound_answers t s = record {
   wishes = λ wish w. grind (arith, nat_tests);
-  ticks = λ wish speed p. let h = tick_stops t.unit wish speed (grind (arith, nat_tests)) s.can_stop p in grind (arith, nat_tests);
+  ticks = λ wish speed p. grind (arith, nat_tests, tick_stops t.unit wish speed);
   marks = grind (arith, nat_tests);
   reports = grind (arith, nat_tests);
 }
 
 pub standing_sound : StandingSound
 standing_sound t stands brakes whole low high end limit =
-    let d = distance_low t.unit.brakes t.unit.speed (omega arith) in grind (arith, nat_tests)
+    grind (arith, nat_tests, distance_low t.unit.brakes t.unit.speed)
 
 pub sound_stays : SoundStays
-sound_stays t (tick wish speed) s p = let h = tick_stops t.unit wish speed (grind (arith, nat_tests)) s.can_stop p in grind (arith, nat_tests)
+sound_stays t (tick wish speed) s p = grind (arith, nat_tests, tick_stops t.unit wish speed)
 sound_stays t e s p = grind (arith, nat_tests)
 
 pub worked_day : WorkedDay

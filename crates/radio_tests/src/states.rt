@@ -1,4 +1,9 @@
 // Units and controllers that the tests share.
+ghost use Rattle.controller.specs.Hearings.{after_hearings};
+ghost use Rattle.controller.specs.Steps.{silent};
+ghost use Rattle.message.specs.declared.message.Message.TheVariants.{Report};
+ghost use Rattle.std.specs.Prelude.{◌≡◌, [], ◌∷◌};
+
 use braking::Brakes;
 use controller::Controller;
 use message::Message;
@@ -28,7 +33,9 @@ pub const SECOND: Onboard = Onboard {
 };
 
 // A controller that heard these places of trains 0 and 63.
-pub fn heard(first: u64, last: u64) -> Controller {
+pub fn heard(first: u64, last: u64) -> Controller
+    ensures { result ≡ after_hearings silent (Report 0 first ∷ Report 63 last ∷ []) }
+{
     let report = Message::Report {
         train: 0,
         place: first,
