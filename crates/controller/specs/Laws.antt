@@ -23,7 +23,11 @@ OrderFree =
     ((m : Message) → Among m ms → Among m ns) → ((m : Message) → Among m ns → Among m ms) →
     after_hearings c ms ≡ after_hearings c ns
 
--- a controller that has heard nothing is whole and in range, and hearing keeps it so
+-- a controller that has heard nothing, as a new one and one after a restart, knows 0 of every train
+abbrev pub SilentKnowsNothing : Type 0
+SilentKnowsNothing = (train : ℕ) → known silent train ≡ 0
+
+-- it is whole and in range, and hearing keeps it so
 abbrev pub SilentInRange : Type 0
 SilentInRange = Whole silent × InRange silent
 

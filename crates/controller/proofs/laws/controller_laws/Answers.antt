@@ -7,5 +7,8 @@ returns-clause-farthest_known c = h.farthest_known
 pub returns-clause-order_free : goal.returns-clause-order_free
 returns-clause-order_free c = h.order_free
 
+pub returns-clause-silent_knows_nothing : goal.returns-clause-silent_knows_nothing
+returns-clause-silent_knows_nothing c = h.silent_knows_nothing
+
 pub returns-clause-silent_in_range : goal.returns-clause-silent_in_range
 returns-clause-silent_in_range c = h.silent_in_range
