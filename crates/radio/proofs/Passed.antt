@@ -7,7 +7,8 @@ use Rattle.message.specs.Bytes.{body, with_check}
 use Rattle.message.proofs.RoundTrip.{read_back}
 use Rattle.controller.specs.Steps.{known, after_hear}
 use Rattle.controller.proofs.Hearings.{farthest_known}
-use Rattle.radio.specs.Laws.{ReportHeard, TellHeard, GrantHeard, FreshEnd}
+use Rattle.radio.specs.Ends.{after_hearing}
+use Rattle.radio.specs.Laws.{ReportHeard, TellHeard, GrantHeard, FreshEnd, FreshIfTaken}
 
 pub report_heard : ReportHeard
 report_heard u bytes e = read_back _ bytes (grind (arith, nat_tests))
@@ -34,3 +35,11 @@ fresh_end ahead behind c low next last w r =
       takes = grind (arith, nat_tests);
       fresh = grind (arith, nat_tests);
     }
+
+pub fresh_if_taken : FreshIfTaken
+fresh_if_taken ahead behind c report grant w reports grants takes =
+    let said = Report ahead.train (ahead.low - ahead.length) in
+    let farthest = farthest_known c (said ∷ []) ahead.train w in
+    let heard = report_heard ahead report reports in
+    let told = grant_heard (kept c (after_hearing c report)) ahead.train grant grants in
+    grind (arith, nat_tests)

@@ -21,6 +21,7 @@ pub fn take(unit: Onboard, bytes: &[u8]) -> (Onboard, Result<(), Refusal>)
     }
 }
 
+// The place that the train's rear is not behind, as the bytes of a report.
 pub fn report(unit: Onboard) -> (Onboard, Result<[u8; MESSAGE_LENGTH], Refusal>)
     ensures state { result.0 ≡ unit }
     ensures word { result.1 ≡ report_bytes unit }

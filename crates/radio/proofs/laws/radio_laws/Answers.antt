@@ -12,3 +12,6 @@ returns-clause-grant_heard c = p.grant_heard
 
 pub returns-clause-fresh_end : goal.returns-clause-fresh_end
 returns-clause-fresh_end c = p.fresh_end
+
+pub returns-clause-fresh_if_taken : goal.returns-clause-fresh_if_taken
+returns-clause-fresh_if_taken c = p.fresh_if_taken
