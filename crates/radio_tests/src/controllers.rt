@@ -10,6 +10,10 @@ fn report(train: u64, place: u64) -> Message {
     Message::Report { train, place }
 }
 
+fn grant(train: u64, place: u64) -> Message {
+    Message::Grant { train, place }
+}
+
 #[test]
 fn farthest_wins_and_never_the_newest(rt: HostRuntime) {
     let mut controller = Controller::new();
@@ -36,22 +40,21 @@ fn farthest_wins_and_never_the_newest(rt: HostRuntime) {
 fn grants_tell_a_controller_nothing(rt: HostRuntime) {
     let controller = heard(400, 300);
     for train in [1, 63] {
-        let grant = Message::Grant {
-            train,
-            place: FARTHEST,
-        };
-        assert_eq!(rt; controller.hear(grant), (controller, Ok(())));
+        let heard = controller.hear(grant(train, FARTHEST));
+        assert_eq!(rt; heard, (controller, Ok(())));
     }
 }
 
 #[test]
 fn messages_turned_away(rt: HostRuntime) {
     let controller = heard(400, 300);
-    let foremost = Message::Grant { train: 0, place: 0 };
     let cases = [
+        (grant(64, FARTHEST + 1), Refusal::TrainTooHigh),
+        (grant(63, FARTHEST + 1), Refusal::PlaceTooFar),
+        (grant(0, FARTHEST + 1), Refusal::GrantToForemost),
         (report(64, FARTHEST + 1), Refusal::TrainTooHigh),
         (report(u64::MAX, 0), Refusal::TrainTooHigh),
-        (foremost, Refusal::GrantToForemost),
+        (grant(0, 0), Refusal::GrantToForemost),
         (report(0, FARTHEST + 1), Refusal::PlaceTooFar),
         (report(63, u64::MAX), Refusal::PlaceTooFar),
     ];
@@ -70,11 +73,8 @@ fn words_and_grants(rt: HostRuntime) {
         );
     }
     for (train, behind, place) in [(0, 1, 400), (1, 2, 0), (62, 63, 0)] {
-        let grant = Message::Grant {
-            train: behind,
-            place,
-        };
-        assert_eq!(rt; controller.grant(train), (controller, Ok(grant)));
+        let granted = Ok(grant(behind, place));
+        assert_eq!(rt; controller.grant(train), (controller, granted));
     }
     for train in [64, u64::MAX] {
         assert_eq!(rt; controller.tell(train), (controller, TOO_HIGH));
@@ -92,6 +92,9 @@ fn places_that_cannot_be_are_not_sent(rt: HostRuntime) {
     assert_eq!(rt; broken.tell(7), (broken, too_far));
     assert_eq!(rt; broken.grant(7), (broken, too_far));
     assert_eq!(rt; broken.tell(8).1, Ok(report(8, 0)));
+    // the train behind is looked at before the place
+    broken.heard[63] = FARTHEST + 1;
+    assert_eq!(rt; broken.grant(63), (broken, TOO_HIGH));
 }
 
 #[test]

@@ -77,10 +77,12 @@ fn what_cannot_be_is_not_sent(rt: HostRuntime) {
         train: 64,
         ..FIRST
     };
-    assert_eq!(rt; radio::report(far).1, Err(Refusal::PlaceTooFar));
+    let too_far = Err(Refusal::PlaceTooFar);
+    assert_eq!(rt; radio::report(far), (far, too_far));
     let unknown = Onboard { train: 64, ..FIRST };
-    assert_eq!(rt; radio::report(unknown).1, Err(Refusal::TrainTooHigh));
+    let too_high = Err(Refusal::TrainTooHigh);
+    assert_eq!(rt; radio::report(unknown), (unknown, too_high));
     let controller = heard(400, 300);
-    assert_eq!(rt; radio::tell(controller, 64).1, Err(Refusal::TrainTooHigh));
-    assert_eq!(rt; radio::grant(controller, 63).1, Err(Refusal::TrainTooHigh));
+    assert_eq!(rt; radio::tell(controller, 64), (controller, too_high));
+    assert_eq!(rt; radio::grant(controller, 63), (controller, too_high));
 }

@@ -10,7 +10,7 @@ use std::fmt::Debug;
 use std::process::Abort;
 
 // Units as they should be, and units whose memory holds something else.
-const UNITS: [Onboard; 7] = [
+const UNITS: [Onboard; 8] = [
     FIRST,
     SECOND,
     Onboard {
@@ -26,6 +26,10 @@ const UNITS: [Onboard; 7] = [
     },
     Onboard {
         low: u64::MAX,
+        ..SECOND
+    },
+    Onboard {
+        high: FARTHEST + 1,
         ..SECOND
     },
     Onboard {
