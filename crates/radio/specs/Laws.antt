@@ -73,7 +73,8 @@ FreshEnd =
     (ahead behind : Onboard) (c : Controller) → ahead.low ≤ place_max → behind.train ≡ ahead.train + 1 → behind.train ≤ train_max →
     Whole c → known c ahead.train ≤ place_max → PassedOn ahead behind c
 
--- and in any case: if the report is sent, and the grant, and the grant is taken, the end is so, whatever numbers are in their memory
+-- and whatever numbers are in their memory: if the report is sent, the controller that heard it sends the grant, and the unit
+-- behind takes that, then the end is so
 abbrev pub FreshIfTaken : Type 0
 FreshIfTaken =
     (ahead behind : Onboard) (c : Controller) (report grant : List ℕ) → Whole c → report_bytes ahead ≡ Ok report →
