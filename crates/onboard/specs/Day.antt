@@ -1,10 +1,11 @@
 -- A day of a train, worked out by hand. Assumes nothing: these are definitions.
 use Rattle.std.specs.Prelude.{◌≡◌, ℕ, List, [], ◌∷◌, Some, None, Option, Ok, Result}
 use Rattle.braking.specs.declared.refusal.Refusal.{Refusal}
+use Rattle.onboard.specs.declared.train.Train.{Train}
 use Rattle.onboard.specs.declared.word.Word.{Word}
 use Rattle.onboard.specs.declared.word.Word.TheVariants.{Drive, Brake}
 use Rattle.onboard.specs.Steps.{asked}
-use Rattle.onboard.specs.Train.{Train, Event, tick, mark, take, fastest, after}
+use Rattle.onboard.specs.Train.{Event, tick, mark, take, fastest, after}
 
 -- the unit's answer to its driver at an event; only in a tick the driver wishes anything
 abbrev pub word_at : Train → Event → Option (Result Word Refusal)

@@ -2,11 +2,12 @@
 use Rattle.std.specs.Prelude.{◌≡◌, ℕ, ◌+◌, ◌-◌, ◌≤◌, cond, Ok}
 use Rattle.braking.specs.Refusals.{done}
 use Rattle.braking.specs.Limits.{brakes_checked, speed_max, place_max}
+use Rattle.onboard.specs.declared.train.Train.{Train}
 use Rattle.onboard.specs.declared.unit.Onboard.{Onboard}
 use Rattle.onboard.specs.declared.word.Word.TheVariants.{Drive, Brake}
 use Rattle.onboard.specs.Rule.{Needed}
 use Rattle.onboard.specs.Steps.{unit_lets, asked, tick_blur, after_tick, reported}
-use Rattle.onboard.specs.Train.{Train, Event, tick, mark, Possible, front_after, unit_after, after, Known, CanStop, RearPast, Sound}
+use Rattle.onboard.specs.Train.{Event, tick, mark, Possible, front_after, unit_after, after, Known, CanStop, RearPast, Sound}
 
 -- no unit brakes without need
 abbrev pub BrakesOnlyIfNeeded : Type 0

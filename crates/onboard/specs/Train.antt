@@ -5,16 +5,12 @@ use Rattle.braking.specs.declared.refusal.Refusal.{Refusal}
 use Rattle.braking.specs.Refusals.{kept}
 use Rattle.braking.specs.Limits.{brakes_checked, speed_max, place_max}
 use Rattle.braking.specs.Distance.{distance}
+use Rattle.onboard.specs.declared.train.Train.{Train}
 use Rattle.onboard.specs.declared.unit.Onboard.{Onboard}
 use Rattle.onboard.specs.declared.unit.Grant.{Grant}
 use Rattle.onboard.specs.declared.word.Word.{Word}
 use Rattle.onboard.specs.declared.word.Word.TheVariants.{Drive, Brake}
 use Rattle.onboard.specs.Steps.{asked, after_tick, after_mark, after_take}
-
--- where the front is in truth, and the train's unit
-pub record Train : Type 0 where
-  pub front : ℕ
-  pub unit : Onboard
 
 -- what happens to one train: a tick with the driver's wish and the speed that the train then has, a mark that it passes, a grant that comes to it
 pub data Event : Type 0 where

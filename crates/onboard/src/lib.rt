@@ -3,11 +3,13 @@
 
 pub mod drive;
 pub mod laws;
+pub mod train;
 pub mod unit;
 pub mod word;
 
 pub use drive::may_drive;
 pub use laws::unit_laws;
+pub use train::Train;
 pub use unit::{Grant, Onboard};
 pub use word::Word;
 
