@@ -1,0 +1,4 @@
+pub mod Safe
+pub mod Fresh
+pub mod Always
+pub mod Worked
