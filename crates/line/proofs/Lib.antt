@@ -1,0 +1,3 @@
+pub mod Coming
+pub mod Counting
+pub mod Beginnings

@@ -1,0 +1,38 @@
+use Rattle.std.proofs.Common.{◌≡◌, [], refl, sym, ap, ◌∙◌, arith}
+use Rattle.std.proofs.lemmas.List.{append-nil}
+use Rattle.line.specs.declared.gaps.Gaps.{Gaps}
+use Rattle.line.specs.Inside.{count_of}
+use Rattle.line.proofs.Counting.{count_right}
+use Rattle.line.proofs.Coming.{came_few, further, all_kept}
+use Rattle.line.proofs.line.Line.run.Goals as goal
+
+pub with_gaps-gaps-requires : goal.with_gaps-gaps-requires
+with_gaps-gaps-requires c = grind (arith, c.loop-done.invariant.few, came_few _ c.record.new.self.came)
+
+pub loop-done-init : goal.loop-done-init
+loop-done-init c =
+    let first : c.none-gaps.result ≡ count_of [] = c.none-gaps.ensures in
+    record {
+      can_be = tt;
+      is = refl;
+      kept = all_kept _ _ 0 c.args.self.now.came tt;
+      seen = sym (append-nil _);
+      gaps = first;
+      right = count_right _ [] first;
+      few = omega (arith, ap (λ (g : Gaps). g.count) first);
+    }
+
+pub loop-done-preserved : goal.loop-done-preserved
+loop-done-preserved c =
+    let i = c.loop-done.invariant in
+    let next = further _ _ _ _ _ _ _ _ _ c.loop-done-test.true i.can_be i.is i.seen c.in_default.ensures in
+    let gaps = c.with_gaps-gaps.ensures.looked_at _ i.gaps ∙ ap count_of next.gaps in
+    record {
+      can_be = next.can_be;
+      is = next.is;
+      seen = next.seen;
+      gaps = gaps;
+      right = count_right _ _ gaps;
+      kept = all_kept _ _ _ c.args.self.now.came next.can_be;
+      few = omega (arith, i.few, c.with_gaps-gaps.ensures.few, came_few _ c.record.new.self.came);
+    }
