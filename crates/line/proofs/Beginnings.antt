@@ -100,6 +100,10 @@ initial_checked b limit train (t ∷ ts) stands apart first =
     let rest = initial_checked b (t.front - t.length) (train + 1) ts (λ i. stands (suc i)) (λ i. apart (suc i)) (omega (arith, apart 0)) in
     grind (arith, nat_tests, stands 0)
 
+line_checked : (b : Brakes) (ts : List Standing) (controllers : ℕ) → Initial (line_of b ts controllers) →
+    trains_checked place_max 0 ts ≡ Ok tt
+line_checked b ts controllers i = initial_checked b place_max 0 ts i.stands i.apart (i.stands 0).limit
+
 -- where a train is refused, the trains ahead of it fit, and with it they do not
 record WrongAt (limit first train : ℕ) (ts : List Standing) : Type 0 where
   pub ahead : ℕ
@@ -143,8 +147,8 @@ refused_first b ts controllers train e =
     record {
       there = omega (arith, w.number, w.there);
       ahead = checked_initial b (take train ts) controllers parts.0 (grind (arith, nat_tests, length-take, parts.1)) fit;
-      with_it = λ i. let f = initial_checked b place_max 0 (take (suc train) ts) i.stands i.apart (i.stands 0).limit in grind (arith, f, wrong);
-      all = λ i. let f = initial_checked b place_max 0 ts i.stands i.apart (i.stands 0).limit in grind (arith, f, parts.2);
+      with_it = λ i. grind (arith, line_checked b (take (suc train) ts) controllers i, wrong);
+      all = λ i. grind (arith, line_checked b ts controllers i, parts.2);
     }
 
 pub made_first : {A : Type 0} (state_of : A → State) (r : Result A NewError) (b : Brakes) (ts : List Standing) (controllers train : ℕ) →

@@ -1,3 +1,3 @@
-pub mod Coming
+pub mod Running
 pub mod Counting
 pub mod Beginnings

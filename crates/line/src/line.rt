@@ -85,7 +85,7 @@ impl Line {
     // Does the events one after another, up to the first that cannot be or for which there is no memory, and tells
     // how many and why it ended there. What is seen of ticks comes after what was seen before. After each event
     // that was done all holds that is promised of a line: clause `promised`.
-    #[tactic(auto, using(crate::proofs::Coming::stopped, crate::proofs::Coming::left, crate::proofs::Counting::gap_true))]
+    #[tactic(auto, using(crate::proofs::Running::stopped, crate::proofs::Running::left, crate::proofs::Counting::gap_true))]
     pub fn run(&mut self, events: &[Event], seen: &mut Vec<Seen>) -> Run
         ensures done { result.done ≤ length events.now }
         ensures ended { Ended result.stop result.done (Full self.new.parts.sent) (Full seen.new) events.now (state self.new.parts) }

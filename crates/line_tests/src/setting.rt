@@ -4,9 +4,9 @@ use line::{Line, NewError, Standing};
 use std::alloc::Global;
 use std::test::Fail;
 
-pub const BRAKES: Brakes = Brakes { brake: 3, blur: 1 };
+pub(crate) const BRAKES: Brakes = Brakes { brake: 3, blur: 1 };
 
-pub const FIRST: Standing = Standing {
+pub(crate) const FIRST: Standing = Standing {
     low: 500,
     front: 500,
     high: 500,
@@ -14,7 +14,7 @@ pub const FIRST: Standing = Standing {
     length: 100,
 };
 
-pub const SECOND: Standing = Standing {
+pub(crate) const SECOND: Standing = Standing {
     low: 380,
     front: 380,
     high: 380,
@@ -22,12 +22,12 @@ pub const SECOND: Standing = Standing {
     length: 80,
 };
 
-pub fn two_trains(alloc: Global) -> Result<Line, Fail> {
+pub(crate) fn two_trains(alloc: Global) -> Result<Line, Fail> {
     Line::new(alloc, BRAKES, &[FIRST, SECOND], 2).map_err(|_| Fail::new("no line"))
 }
 
 // The number and the place by which there is no new line, or none where there is one.
-pub fn refused(made: Result<Line, NewError>) -> Result<Option<(u64, u64)>, Fail> {
+pub(crate) fn refused(made: Result<Line, NewError>) -> Result<Option<(u64, u64)>, Fail> {
     match made {
         Ok(_) => Ok(None),
         Err(NewError::Refused(why)) => Ok(Some((why.number(), why.place()))),

@@ -7,8 +7,8 @@ use Rattle.safety.specs.Promises.{AllPromised, PromisesKept}
 use Rattle.safety.proofs.Safe.{Safe, initial_events_safe}
 use Rattle.safety.proofs.Fresh.{safe_fresh}
 
-pub safe_kept : (s : State) → Safe s → AllPromised s
-safe_kept s a = record {
+pub safe_promised : (s : State) → Safe s → AllPromised s
+safe_promised s a = record {
   apart = λ i. omega (arith, a.apart i, a.each (suc i));
   ends = a.apart;
   limit = λ i. (a.each i).in_range.end;
@@ -21,4 +21,4 @@ safe_kept s a = record {
 }
 
 pub promises_kept : PromisesKept
-promises_kept s es b c = safe_kept _ (initial_events_safe s es b c)
+promises_kept s es b c = safe_promised _ (initial_events_safe s es b c)

@@ -25,7 +25,8 @@ abbrev pub passed_on : State → (controller train : ℕ) → List Event
 passed_on s controller train =
     Report train ∷ Hear controller (length s.sent) ∷ Grant controller train ∷ Take (length s.sent + 1) ∷ []
 
--- each of these events can be when its turn comes, and then the end of the train behind is at least the low place of the one ahead less its length
+-- each of these events can be when its turn comes, and then the end of the train behind is at least the low place of the one
+-- ahead less its length
 pub record Fresh (s : State) (controller train : ℕ) : Type 0 where
   pub can_be : CanBe s (passed_on s controller train)
   pub end : (train_at s train).unit.low - (train_at s train).unit.length

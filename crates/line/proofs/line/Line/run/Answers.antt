@@ -3,7 +3,8 @@ use Rattle.std.proofs.lemmas.List.{append-nil}
 use Rattle.line.specs.declared.gaps.Gaps.{Gaps}
 use Rattle.line.specs.Inside.{count_of}
 use Rattle.line.proofs.Counting.{count_right}
-use Rattle.line.proofs.Coming.{came_few, further, all_kept}
+use Rattle.safety.proofs.Coming.{all_promised}
+use Rattle.line.proofs.Running.{came_few, further}
 use Rattle.line.proofs.line.Line.run.Goals as goal
 
 pub with_gaps-gaps-requires : goal.with_gaps-gaps-requires
@@ -15,7 +16,7 @@ loop-done-init c =
     record {
       can_be = tt;
       is = refl;
-      kept = all_kept _ _ 0 c.args.self.now.came tt;
+      promised = all_promised _ _ 0 c.args.self.now.came tt;
       seen = sym (append-nil _);
       gaps = first;
       right = count_right _ [] first;
@@ -33,6 +34,6 @@ loop-done-preserved c =
       seen = next.seen;
       gaps = gaps;
       right = count_right _ _ gaps;
-      kept = all_kept _ _ _ c.args.self.now.came next.can_be;
+      promised = all_promised _ _ _ c.args.self.now.came next.can_be;
       few = omega (arith, i.few, c.with_gaps-gaps.ensures.few, came_few _ c.record.new.self.came);
     }

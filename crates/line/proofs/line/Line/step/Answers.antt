@@ -1,4 +1,4 @@
-use Rattle.line.proofs.Coming.{came_in_limits, came_stepped}
+use Rattle.line.proofs.Running.{came_in_limits, came_stepped}
 use Rattle.line.proofs.line.Line.step.Goals as goal
 
 pub step-requires : goal.step-requires
