@@ -1,0 +1,5 @@
+pub mod Cuts
+pub mod Decimals
+pub mod Entries
+pub mod TextLines
+pub mod Readings

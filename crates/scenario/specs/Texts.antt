@@ -1,0 +1,75 @@
+-- What the lines of a text say. Assumes nothing: these are definitions.
+use Rattle.std.specs.Prelude.{◌≡◌, ℕ, false, Bool, true, ◌==◌, ◌+◌, List, [], ◌∷◌, ◌++◌, if◌then◌else◌, slice_index}
+use Rattle.std.specs.List.{slice_split, list_any}
+use Rattle.std.specs.Str.Lines.{strip_carriage_return}
+use Rattle.scenario.specs.declared.left.Reader.{Reader}
+use Rattle.safety.specs.declared.event.Event.{Event}
+use Rattle.scenario.specs.declared.entry.HeadLine.{HeadLine}
+use Rattle.scenario.specs.declared.entry.HeadLine.TheVariants as heads
+use Rattle.scenario.specs.Words.{words}
+use Rattle.scenario.specs.Lines.{event_words, head_words, EventFits, HeadFits}
+
+-- the lines of a text are what stands between line feeds, the last one too. A carriage return at the end of a line is no part
+-- of it
+unfoldable pub text_lines : List ℕ → List (List ℕ)
+text_lines text = slice_split (λ byte. byte == 10) text
+
+abbrev pub line_words : List ℕ → List (List ℕ)
+line_words line = words (strip_carriage_return line)
+
+-- a line with no word says nothing, nor does a comment: one whose first word begins with #
+abbrev pub says_nothing : List (List ℕ) → Bool
+says_nothing [] = true
+says_nothing (word ∷ rest) = slice_index word 0 == 35
+
+-- a line that says something: its number, and its words
+pub record Said : Type 0 where
+  pub line : ℕ
+  pub words : List (List ℕ)
+
+-- what a line of the number says, if anything; and what lines say, whose numbers begin at n
+abbrev pub said_by : ℕ → List ℕ → List Said
+said_by n line = if says_nothing (line_words line) then [] else (record { line = n; words = line_words line } ∷ [])
+
+abbrev pub said_from : ℕ → List (List ℕ) → List Said
+said_from n [] = []
+said_from n (line ∷ lines) = said_by n line ++ said_from (n + 1) lines
+
+-- what a text says; its lines are counted from 0
+abbrev pub said : List ℕ → List Said
+said text = said_from 0 (text_lines text)
+
+-- what a reader has still to read
+abbrev pub left : Reader → List Said
+left reader = said_from reader.line (text_lines reader.rest.now)
+
+-- the lines of the head that may come once
+abbrev pub same_kind : HeadLine → HeadLine → Bool
+same_kind (heads.Brake m) (heads.Brake n) = true
+same_kind (heads.Blur m) (heads.Blur n) = true
+same_kind (heads.Controllers m) (heads.Controllers n) = true
+same_kind _ _ = false
+
+-- whether a line gives again what a line before it gave
+abbrev pub is_double : List HeadLine → HeadLine → Bool
+is_double before line = list_any (same_kind line) before
+
+-- the head ends here: there is no more line, or one that is none of the head, or gives again what was given
+abbrev pub HeadEnds : List HeadLine → (rest : List Said) → Type 0
+HeadEnds before [] = Unit {0}
+HeadEnds before (next ∷ text) = (line : HeadLine) → HeadFits line → next.words ≡ head_words line → is_double before line ≡ true
+
+-- reading the head of a scenario, after some lines of it: `lines` are written by the next lines of the text, one after another,
+-- and none is double; the head ends where no line of it, or a double one, stands; `rest` is left
+abbrev pub HeadRead : List HeadLine → List Said → (lines : List HeadLine) → (rest : List Said) → Type 0
+HeadRead before text [] rest = (text ≡ rest) × HeadEnds before rest
+HeadRead before [] (line ∷ lines) rest = ⊥
+HeadRead before (next ∷ text) (line ∷ lines) rest =
+    (next.words ≡ head_words line) × HeadFits line × (is_double before line ≡ false) × HeadRead (before ++ line ∷ []) text lines rest
+
+-- reading events: each is written by the next line of the text, which has its number; `rest` is left
+abbrev pub EventsRead : List Said → (lines : List ℕ) → (events : List Event) → (rest : List Said) → Type 0
+EventsRead text [] [] rest = text ≡ rest
+EventsRead (next ∷ text) (line ∷ lines) (event ∷ events) rest =
+    (next.line ≡ line) × (next.words ≡ event_words event) × EventFits event × EventsRead text lines events rest
+EventsRead _ _ _ rest = ⊥
