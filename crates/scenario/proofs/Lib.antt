@@ -3,3 +3,4 @@ pub mod Decimals
 pub mod Entries
 pub mod TextLines
 pub mod Readings
+pub mod Places

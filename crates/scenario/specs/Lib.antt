@@ -4,4 +4,5 @@ pub mod Texts
 pub mod Ends
 pub mod Heads
 pub mod Written
+pub mod Faults
 pub mod Inside

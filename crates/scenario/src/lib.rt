@@ -2,6 +2,7 @@
 #![tactic(auto)]
 
 pub mod entry;
+pub mod fault;
 pub mod head;
 pub mod keyword;
 pub mod left;
@@ -9,6 +10,7 @@ pub mod parts;
 pub mod reader;
 pub mod reading;
 pub mod scenario;
+pub mod why_not;
 pub mod words;
 pub mod writing;
 
