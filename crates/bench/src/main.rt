@@ -1,52 +1,119 @@
-// The bench: for now it plays one day of two trains.
+// The bench: plays scenarios, and tells how trains move and how close they come.
 #![tactic(auto)]
 
-mod day;
+mod arguments;
+mod play;
+mod progress;
+mod refusal;
+mod text;
 
-use anyhow::anyhow;
-use day::{BRAKES, CONTROLLERS, EVENTS, TRAINS};
-use line::{Line, Seen};
+use arguments::{Arguments, Request, read_arguments};
+use play::{PlayError, play};
+use progress::Progress;
+use std::io::{self, BufWriter, Write};
 use std::process::ExitCode;
-use std::{env, io};
+use std::{env, fmt};
+use text::read_text;
 
-const USAGE: &str = "usage: bench [--help]
+const USAGE: &str = "usage: bench [--quiet] [--check] [FILE]...
 
-Plays a day of two trains, and prints a line for each tick: the train, what its unit says to the driver,
-the speed that the train then has, and where its front is afterwards. At the end: how many gaps between
-trains were looked at, after each event every one, and the smallest of them.
-Places are in decimetres from the foot of the line, speeds in decimetres a tick.";
+Plays scenarios: each FILE says how a day begins on a line of trains, and what happens, one event a line.
+'-', or no FILE at all, is standard input. docs/FORMATS.md says how scenarios are written.
 
-fn play(rt: &HostRuntime) -> anyhow::Result<()> {
-    let mut line = Line::new(rt.alloc(), BRAKES, &TRAINS, CONTROLLERS)?;
-    let mut seen: Vec<Seen> = Vec::with_capacity(rt.alloc(), EVENTS.len())?;
-    let run = line.run(&EVENTS, &mut seen);
-    for tick in &seen {
-        println!(rt; "{tick}")?;
+Prints a line for each tick: the train, whether its unit lets the driver drive or brakes, the speed that the
+train then has, and where its front is; at the end how many gaps between trains were looked at, and the
+smallest. Places are in decimetres from the foot of the line, speeds in decimetres a tick.
+
+  --quiet    leaves out the ticks, and progress on long runs
+  --check    says of each file in one line whether it is taken or how it is refused, and goes on
+  --help     prints this
+  --version  prints the version
+
+The status is 0, or 1 where a file is refused or cannot be read, or 2 where an argument is wrong.";
+
+const VERSION: &str = "bench 1";
+
+// Plays one file. Answers whether it was taken.
+fn play_file(rt: &HostRuntime, name: &str, arguments: &Arguments) -> io::Result<bool> {
+    let text = match read_text(rt, name) {
+        Ok(text) => text,
+        Err(error) => return tell(rt, arguments, format_args!("{name}: {error}")),
+    };
+    let mut out = BufWriter::with_capacity(rt.alloc(), 1 << 16, io::writer(rt))?;
+    let mut progress = Progress::new(rt, arguments.quiet)?;
+    let shown = !arguments.quiet && !arguments.check;
+    let played = play(
+        rt.alloc(),
+        text.as_str(),
+        &mut out,
+        shown,
+        &mut progress,
+        name,
+    );
+    progress.end()?;
+    match played {
+        Ok(gaps) if arguments.check => writeln!(out, "{name}: taken: {gaps}")?,
+        Ok(gaps) => writeln!(out, "{gaps}")?,
+        Err(_) => {}
     }
-    if let Some(stop) = run.stop {
-        let event = run.done;
-        return Err(anyhow!(format!(in rt.alloc(); "event {event} was not done: {stop}")?));
+    out.flush()?;
+    match played {
+        Ok(_) => Ok(true),
+        Err(PlayError::Refused(refused)) => match refused.line {
+            None => tell(rt, arguments, format_args!("{name}: {refused}")),
+            Some(line) => tell(
+                rt,
+                arguments,
+                format_args!("{name}:{}: {refused}", line.saturating_add(1)),
+            ),
+        },
+        Err(PlayError::NoMemory) => tell(
+            rt,
+            arguments,
+            format_args!("{name}: there is not enough memory"),
+        ),
+        Err(PlayError::Output(error)) => Err(error),
     }
-    let gaps = run.gaps;
-    Ok(println!(rt; "{gaps}")?)
 }
 
-fn run(rt: &HostRuntime) -> anyhow::Result<()> {
-    match env::args(rt)?.nth(1) {
-        None => play(rt),
-        Some(word) if word.as_str() == "--help" => Ok(println!(rt; "{USAGE}")?),
-        Some(word) => Err(anyhow!(format!(in rt.alloc();
-            "only --help is an argument yet, not '{word}'"
-        )?)),
+// Why a file is not taken: on standard output where files are checked, and else on standard error.
+fn tell(
+    rt: &HostRuntime,
+    arguments: &Arguments,
+    why: impl fmt::Display + Drop,
+) -> io::Result<bool> {
+    if arguments.check {
+        println!(rt; "{why}")?;
+        Ok(true)
+    } else {
+        eprintln!(rt; "bench: {why}")?;
+        Ok(false)
     }
+}
+
+fn play_files(rt: &HostRuntime, arguments: &Arguments) -> io::Result<ExitCode> {
+    let headed = arguments.files.len() > 1 && !arguments.check;
+    for name in &arguments.files {
+        if headed {
+            println!(rt; "== {name}")?;
+        }
+        if !play_file(rt, name.as_str(), arguments)? {
+            return Ok(ExitCode::FAILURE);
+        }
+    }
+    Ok(ExitCode::SUCCESS)
 }
 
 fn main(rt: HostRuntime) -> io::Result<ExitCode> {
-    match run(&rt) {
-        Ok(()) => Ok(ExitCode::SUCCESS),
+    let given: Vec<String> = env::args(&rt)?.skip(1).collect(rt.alloc())?;
+    match read_arguments(rt.alloc(), &given) {
+        Ok(Request::Help) => println!(rt; "{USAGE}")?,
+        Ok(Request::Version) => println!(rt; "{VERSION}")?,
+        Ok(Request::Play(arguments)) => return play_files(&rt, &arguments),
         Err(error) => {
             eprintln!(rt; "bench: {error}")?;
-            Ok(ExitCode::FAILURE)
+            return Ok(ExitCode::from(2));
         }
     }
+    Ok(ExitCode::SUCCESS)
 }

@@ -49,3 +49,9 @@ count_of gaps = record { count = length gaps; smallest = smallest_of gaps }
 
 abbrev pub with_gap : Gaps → ℕ → Gaps
 with_gap g gap = record { count = g.count + 1; smallest = Some (lesser g.smallest gap) }
+
+-- the smaller of two numbers, where there are two
+abbrev pub smaller : Option ℕ → Option ℕ → Option ℕ
+smaller (Some one) (Some other) = Some (min one other)
+smaller None other = other
+smaller (Some one) None = Some one

@@ -1,6 +1,7 @@
 // The gaps between trains.
-ghost use Rattle.line.specs.Inside.{count_of, with_gap};
-ghost use Rattle.std.specs.Prelude.{◌≡◌, ◌+◌, ◌<◌, ◌^◌, []};
+ghost use Rattle.line.specs.Inside.{count_of, smaller, with_gap};
+ghost use Rattle.line.specs.Runs.{Counted};
+ghost use Rattle.std.specs.Prelude.{◌≡◌, ℕ, ◌+◌, ◌<◌, ◌^◌, ◌++◌, List, [], length};
 
 use std::fmt;
 
@@ -35,6 +36,29 @@ impl Gaps {
             count: self.count + 1,
             smallest: Some(smallest),
         }
+    }
+}
+
+impl Gaps {
+    // The gaps of one run and of the next, together.
+    pub fn and(self, next: Gaps) -> Gaps
+        ensures { (before after : List ℕ) → Counted self before → Counted next after → length (before ++ after) < 2 ^ 128 → Counted result (before ++ after) }
+    {
+        Gaps {
+            count: self.count.saturating_add(next.count),
+            smallest: smaller(self.smallest, next.smallest),
+        }
+    }
+}
+
+// The smaller of two numbers, where there are two.
+fn smaller(one: Option<u64>, other: Option<u64>) -> Option<u64>
+    ensures { result ≡ smaller one other }
+{
+    match (one, other) {
+        (Some(one), Some(other)) => Some(one.min(other)),
+        (None, other) => other,
+        (one, None) => one,
     }
 }
 

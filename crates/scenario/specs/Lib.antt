@@ -5,4 +5,5 @@ pub mod Ends
 pub mod Heads
 pub mod Written
 pub mod Faults
+pub mod Wrong
 pub mod Inside

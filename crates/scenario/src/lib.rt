@@ -4,15 +4,24 @@
 pub mod entry;
 pub mod fault;
 pub mod head;
+pub mod impossible;
 pub mod keyword;
 pub mod left;
+pub mod misplaced;
 pub mod parts;
 pub mod reader;
 pub mod reading;
 pub mod scenario;
-pub mod why_not;
 pub mod words;
 pub mod writing;
 
 pub use entry::{Entry, HeadLine};
-pub use reading::read_line;
+pub use fault::{Fault, explain};
+pub use head::Head;
+pub use impossible::{WhyNot, why_not};
+pub use left::Reader;
+pub use misplaced::{Misplaced, misplaced_by};
+pub use reader::{SaidLine, Stop};
+pub use reading::{read_event, read_head_line, read_line};
+pub use scenario::{Scenario, read};
+pub use writing::write;

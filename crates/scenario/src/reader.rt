@@ -40,6 +40,13 @@ impl<'a> Reader<'a> {
         }
     }
 
+    // How many bytes are left.
+    pub fn bytes_left(&self) -> usize
+        ensures { result ≡ length self.now.rest.now }
+    {
+        self.rest.len()
+    }
+
     // Takes the lines up to the first that says something; that line, if there is one.
     #[tactic(auto, using(crate::proofs::TextLines::nothing_left))]
     pub fn next_said(&mut self) -> Option<SaidLine<'a>>

@@ -1,0 +1,46 @@
+// Progress of a long run, for a person at a terminal.
+use std::io;
+use std::io::IsTerminal;
+use std::time::{Duration, Instant};
+
+// Told once a second, from the second second of the run on.
+#[derive(Drop)]
+pub struct Progress<'a> {
+    rt: &'a HostRuntime,
+    // nobody looks, or nobody wants to see it
+    silent: bool,
+    told: Instant,
+    // something stands on the terminal's line
+    shown: bool,
+}
+
+impl<'a> Progress<'a> {
+    pub fn new(rt: &'a HostRuntime, quiet: bool) -> io::Result<Progress<'a>> {
+        Ok(Progress {
+            rt,
+            silent: quiet || !rt.stderr().is_terminal(),
+            told: Instant::now(rt)?,
+            shown: false,
+        })
+    }
+
+    // So many bytes of so many were played.
+    pub fn tell(&mut self, name: &str, done: usize, all: usize) -> io::Result<()> {
+        if self.silent || self.told.elapsed(self.rt)? < Duration::from_secs(1) {
+            return Ok(());
+        }
+        self.told = Instant::now(self.rt)?;
+        self.shown = true;
+        let percent = done / (all / 100).max(1);
+        eprint!(self.rt; "\rbench: {name}: {percent} % played ")
+    }
+
+    // Clears the terminal's line.
+    pub fn end(&mut self) -> io::Result<()> {
+        if self.shown {
+            self.shown = false;
+            eprint!(self.rt; "\r\x1b[K")?;
+        }
+        Ok(())
+    }
+}

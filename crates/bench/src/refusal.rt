@@ -1,0 +1,55 @@
+// A refusal of a scenario, as it is told to people.
+use braking::Refusal;
+use scenario::{Fault, Misplaced, WhyNot};
+use std::fmt;
+
+// Why something is refused, and what would be right.
+#[derive(Clone, Copy)]
+pub enum Reason<'a> {
+    // as the list has it
+    Listed,
+    // no day can begin with this train
+    Misplaced(Misplaced),
+    // the line is none that there is
+    Fault(Fault<'a>),
+    // the line is one of the head, and the head has ended
+    AfterHead,
+    // the event cannot be
+    WhyNot(WhyNot),
+}
+
+// Where the refusal is at a line, that line is counted from 0.
+#[derive(Clone, Copy)]
+pub struct Refused<'a> {
+    pub line: Option<u64>,
+    pub refusal: Refusal,
+    pub reason: Reason<'a>,
+}
+
+impl<'a> Refused<'a> {
+    pub fn at_line(line: u64, reason: Reason<'a>) -> Refused<'a> {
+        Refused {
+            line: Some(line),
+            refusal: Refusal::Impossible { line },
+            reason,
+        }
+    }
+}
+
+impl<'a> fmt::Display for Refused<'a> {
+    fn fmt<W: fmt::Write>(&self, f: &mut fmt::Formatter<W>) -> fmt::Result {
+        let refusal = self.refusal;
+        let number = refusal.number();
+        let place = refusal.place();
+        match self.reason {
+            Reason::Listed => write!(f, "{refusal}"),
+            Reason::Misplaced(wrong) => write!(f, "refused {number} at {place}: {wrong}"),
+            Reason::Fault(fault) => write!(f, "refused {number} at {place}: {fault}"),
+            Reason::AfterHead => write!(
+                f,
+                "refused {number} at {place}: a line of the head comes before the first event, and brake, blur and controllers come once"
+            ),
+            Reason::WhyNot(why) => write!(f, "refused {number} at {place}: {why}"),
+        }
+    }
+}

@@ -1,0 +1,49 @@
+// Why a day cannot begin with a train as it is given, and what would be right.
+ghost use Rattle.line.specs.Initial.{fits};
+ghost use Rattle.scenario.specs.Wrong.{IsWrong};
+ghost use Rattle.std.specs.Prelude.{◌≡◌, IfSome, is_none};
+
+use line::Standing;
+use std::fmt;
+
+// What is not as it has to be.
+#[derive(Clone, Copy, PartialEq, Eq, Debug)]
+pub enum Misplaced {
+    Length,
+    Low,
+    Front,
+    High,
+    End { limit: u64 },
+}
+
+// The first of these that the train does not keep; its end is to be at most the limit.
+pub fn misplaced_by(train: Standing, limit: u64) -> Option<Misplaced>
+    ensures none { is_none result ≡ fits limit train }
+    ensures wrong { IfSome result (λ wrong. IsWrong wrong train limit) }
+{
+    if train.length > train.front {
+        Some(Misplaced::Length)
+    } else if train.low > train.front {
+        Some(Misplaced::Low)
+    } else if train.front > train.high {
+        Some(Misplaced::Front)
+    } else if train.high > train.end {
+        Some(Misplaced::High)
+    } else if train.end > limit {
+        Some(Misplaced::End { limit })
+    } else {
+        None
+    }
+}
+
+impl fmt::Display for Misplaced {
+    fn fmt<W: fmt::Write>(&self, f: &mut fmt::Formatter<W>) -> fmt::Result {
+        match *self {
+            Misplaced::Length => f.write_str("a train's length is at most its front"),
+            Misplaced::Low => f.write_str("low is at most the front"),
+            Misplaced::Front => f.write_str("the front is at most high"),
+            Misplaced::High => f.write_str("high is at most the end"),
+            Misplaced::End { limit } => write!(f, "the end is at most {limit}"),
+        }
+    }
+}
