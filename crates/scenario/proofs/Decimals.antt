@@ -6,7 +6,7 @@ use Rattle.std.proofs.lemmas.Fmt.{decimal-digits_value, digits_decimal, decimal_
 use Rattle.scenario.specs.Lines.{IsNumber}
 use Rattle.scenario.specs.Inside.{IsPlain}
 
-own : IsNumeralModel (AllDigits 10) (digits_value 10)
+pub own : IsNumeralModel (AllDigits 10) (digits_value 10)
 own = numerals_by_value (AllDigits 10) tells_digits
 
 pub number_written : {E : Type 0} (word : List ℕ) (r : Result ℕ E) → ParsesUnsigned 64 10 word r → IsPlain word → IfOk r (λ n. word ≡ decimal n)

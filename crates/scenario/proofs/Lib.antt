@@ -4,3 +4,5 @@ pub mod Entries
 pub mod TextLines
 pub mod Readings
 pub mod Places
+pub mod OneReading
+pub mod ReadBack

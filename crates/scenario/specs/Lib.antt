@@ -6,4 +6,5 @@ pub mod Heads
 pub mod Written
 pub mod Faults
 pub mod Wrong
+pub mod Laws
 pub mod Inside
