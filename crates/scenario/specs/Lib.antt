@@ -5,6 +5,6 @@ pub mod Ends
 pub mod Heads
 pub mod Written
 pub mod Faults
-pub mod Wrong
+pub mod Reasons
 pub mod Laws
 pub mod Inside

@@ -2,9 +2,11 @@
 ghost use Rattle.line.specs.Steps.{state};
 ghost use Rattle.message.specs.Bytes.{received};
 ghost use Rattle.onboard.specs.Train as onboard;
+ghost use Rattle.scenario.specs.Reasons.{reason_of, unless};
+ghost use Rattle.scenario.specs.declared.impossible.WhyNot.TheVariants.{NoController, NoGrant, NoTrain, NotSent};
 ghost use Rattle.safety.specs.Events.{can_be, has_controller, has_message, has_train, may_be_taken};
 ghost use Rattle.safety.specs.State.{message_at, train_at};
-ghost use Rattle.std.specs.Prelude.{◌≡◌, ◌&&◌, IfNone, IfSome, false, is_none, true};
+ghost use Rattle.std.specs.Prelude.{◌≡◌, ◌&&◌, IfNone, IfSome, None, false, true};
 
 use line::Line;
 use message::{Message, read};
@@ -24,6 +26,7 @@ pub enum WhyNot {
 
 // Why the event cannot be next on the line, if it cannot.
 pub fn why_not(line: &Line, event: Event) -> Option<WhyNot>
+    ensures value { result ≡ reason_of (state line.now.parts) event }
     ensures can { IfNone result (can_be (state line.now.parts) event ≡ true) }
     ensures cannot { IfSome result (λ _. can_be (state line.now.parts) event ≡ false) }
 {
@@ -52,25 +55,25 @@ pub fn why_not(line: &Line, event: Event) -> Option<WhyNot>
 }
 
 fn no_train(line: &Line, train: u64) -> Option<WhyNot>
-    ensures { is_none result ≡ has_train (state line.now.parts) train }
+    ensures { result ≡ unless (has_train (state line.now.parts) train) (NoTrain train) None }
 {
     (!has_train(line, train)).then_some(WhyNot::NoTrain { train })
 }
 
 fn no_controller(line: &Line, controller: u64) -> Option<WhyNot>
-    ensures { is_none result ≡ has_controller (state line.now.parts) controller }
+    ensures { result ≡ unless (has_controller (state line.now.parts) controller) (NoController controller) None }
 {
     (!has_controller(line, controller)).then_some(WhyNot::NoController { controller })
 }
 
 fn not_sent(line: &Line, message: u64) -> Option<WhyNot>
-    ensures { is_none result ≡ has_message (state line.now.parts) message }
+    ensures { result ≡ unless (has_message (state line.now.parts) message) (NotSent message) None }
 {
     (!has_message(line, message)).then_some(WhyNot::NotSent { message })
 }
 
 fn no_grant(line: &Line, message: u64) -> Option<WhyNot>
-    ensures { is_none result ≡ (has_message (state line.now.parts) message && may_be_taken (state line.now.parts) (received (message_at (state line.now.parts) message))) }
+    ensures { result ≡ unless (has_message (state line.now.parts) message && may_be_taken (state line.now.parts) (received (message_at (state line.now.parts) message))) (NoGrant message) None }
 {
     (!may_be_taken(line, message)).then_some(WhyNot::NoGrant { message })
 }

@@ -1,7 +1,7 @@
 // Why a day cannot begin with a train as it is given, and what would be right.
 ghost use Rattle.line.specs.Initial.{fits};
-ghost use Rattle.scenario.specs.Wrong.{IsWrong};
-ghost use Rattle.std.specs.Prelude.{◌≡◌, IfSome, is_none};
+ghost use Rattle.scenario.specs.Reasons.{misplaced_by};
+ghost use Rattle.std.specs.Prelude.{◌≡◌, is_none};
 
 use line::Standing;
 use std::fmt;
@@ -18,8 +18,8 @@ pub enum Misplaced {
 
 // The first of these that the train does not keep; its end is to be at most the limit.
 pub fn misplaced_by(train: Standing, limit: u64) -> Option<Misplaced>
+    ensures value { result ≡ misplaced_by train limit }
     ensures none { is_none result ≡ fits limit train }
-    ensures wrong { IfSome result (λ wrong. IsWrong wrong train limit) }
 {
     if train.length > train.front {
         Some(Misplaced::Length)
