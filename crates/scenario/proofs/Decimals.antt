@@ -1,8 +1,9 @@
 -- Numbers, and the words that write them.
-use Rattle.std.proofs.Common.{◌≡◌, ℕ, ◌<◌, ◌≤◌, ◌^◌, ◌≢◌, List, length, Ok, Err, Result, IfOk, IfErr, decimal, arith, sym, ap}
+use Rattle.std.proofs.Common.{◌≡◌, ℕ, ◌<◌, ◌≤◌, ◌^◌, ◌≢◌, List, length, Ok, Err, Result, IfOk, IfErr, decimal, arith, sym, ◌∙◌, ap}
 use Rattle.std.specs.Str.Parse.{AllDigits, digits_value, ParsesUnsigned}
 use Rattle.std.proofs.lemmas.Str.Parse.{IsNumeralModel, numerals_by_value, tells_digits, parse_plain, not_in_digits}
 use Rattle.std.proofs.lemmas.Fmt.{decimal-digits_value, digits_decimal, decimal_nonempty, first_decimal, decimal_digit, decimal_injective, parse-decimal}
+use Rattle.braking.specs.Limits.{speed_max}
 use Rattle.scenario.specs.Lines.{IsNumber}
 use Rattle.scenario.specs.Inside.{IsPlain}
 
@@ -34,3 +35,6 @@ unwritten {E} word (Err e) parses = λ n small is. grind (arith, parse-decimal 6
 -- numbers on two sides of a limit are written apart
 pub past_limit : (m n limit : ℕ) → IsNumber m → IsNumber limit → limit < m → n ≤ limit → decimal m ≢ decimal n
 past_limit m n limit fits limit_fits above below same = omega (arith, decimal_injective m n fits (omega arith) same)
+
+pub past_wish : (word : List ℕ) (m n : ℕ) → IsNumber m → speed_max < m → word ≡ decimal m → n ≤ speed_max → word ≢ decimal n
+past_wish word m n fits above is below same = past_limit m n speed_max fits (omega arith) above below (sym is ∙ same)

@@ -10,7 +10,8 @@ use Rattle.scenario.specs.declared.keyword.Keyword.{Keyword}
 use Rattle.scenario.specs.declared.keyword.Keyword.TheVariants as keywords
 use Rattle.std.specs.Option.{option_map}
 use Rattle.scenario.specs.Lines.{Fits, EventFits, HeadFits, entry_words, event_words, head_words}
-use Rattle.scenario.specs.Inside.{keyword_of, NoEntry}
+use Rattle.scenario.specs.Inside.{NoEntry}
+use Rattle.scenario.specs.Keywords.{keyword_of}
 
 same_parts : (word other : List ℕ) (rest more : List (List ℕ)) → word ∷ rest ≡ other ∷ more → (word ≡ other) × (rest ≡ more)
 same_parts word other rest more same = (ap (λ line. slice_index_or line 0 []) same, ap (drop 1) same)

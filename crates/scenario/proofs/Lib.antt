@@ -6,3 +6,4 @@ pub mod Readings
 pub mod Places
 pub mod OneReading
 pub mod ReadBack
+pub mod FaultPlaces

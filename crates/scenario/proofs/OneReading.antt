@@ -16,7 +16,7 @@ use Rattle.scenario.specs.Texts.{Said, HeadRead, HeadEnds, EventsRead}
 use Rattle.scenario.specs.Ends.{Ends}
 use Rattle.scenario.specs.declared.reader.Stop.{Stop}
 use Rattle.scenario.specs.declared.reader.Stop.TheVariants.{End, Unreadable}
-use Rattle.scenario.specs.Inside.{keyword_of}
+use Rattle.scenario.specs.Keywords.{keyword_of}
 use Rattle.scenario.specs.Laws.{OneEntry, OneReading}
 use Rattle.scenario.proofs.Decimals.{own}
 

@@ -1,5 +1,6 @@
 pub mod Words
 pub mod Lines
+pub mod Keywords
 pub mod Texts
 pub mod Ends
 pub mod Heads

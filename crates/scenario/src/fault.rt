@@ -1,7 +1,10 @@
 // What is wrong with a line, and what would be right.
-ghost use Rattle.scenario.specs.Faults.{FoundAt, Readable};
+ghost use Rattle.scenario.specs.Faults.{FaultAt, FirstFault, FitsPart, FoundAt, Readable, form_of, text_of};
+ghost use Rattle.braking.specs.Limits.{speed_max};
+ghost use Rattle.scenario.specs.declared.fault.Part.{Part};
+ghost use Rattle.scenario.specs.declared.fault.Part.TheVariants.{Wish};
 ghost use Rattle.scenario.specs.Words.{words};
-ghost use Rattle.std.specs.Prelude.{◌≡◌, ℕ, List, IfNone, IfSome, drop};
+ghost use Rattle.std.specs.Prelude.{◌≡◌, ◌≢◌, ◌≤◌, ◌+◌, ◌∷◌, decimal, ℕ, suc, List, IfNone, IfSome, drop, false, true};
 
 use crate::keyword::Keyword;
 use crate::parts::number;
@@ -10,13 +13,22 @@ use crate::words::next_word;
 use braking::limits::SPEED_MAX;
 use std::fmt;
 
+// The words that stand between numbers.
+#[derive(Clone, Copy, PartialEq, Eq, Debug)]
+pub enum Between {
+    Wish,
+    Speed,
+    Message,
+    Train,
+}
+
 // What can stand at a place of a line.
-#[derive(Clone, Copy)]
+#[derive(Clone, Copy, PartialEq, Eq, Debug)]
 pub enum Part {
     Keyword,
     Number,
     Wish,
-    Word(&'static str),
+    Word(Between),
     End,
 }
 
@@ -32,6 +44,7 @@ pub struct Fault<'a> {
 pub fn explain(line: &str) -> Option<Fault<'_>>
     ensures readable { IfNone result (Readable (words line.now)) }
     ensures fault { IfSome result (λ _. Readable (words line.now) → ⊥) }
+    ensures first { IfSome result (λ fault. FirstFault (words line.now) fault.place fault.expected) }
     ensures found { IfSome result (λ fault. FoundAt fault.found fault.place (words line.now)) }
 {
     if read_line(line).is_some() {
@@ -41,9 +54,9 @@ pub fn explain(line: &str) -> Option<Fault<'_>>
 }
 
 // The first word that is not as it has to be.
-#[tactic(auto, using(crate::proofs::Places::after_word))]
 fn first_fault(line: &str) -> Fault<'_>
-    ensures { FoundAt result.found result.place (words line.now) }
+    ensures first { FirstFault (words line.now) result.place result.expected }
+    ensures found { FoundAt result.found result.place (words line.now) }
 {
     let Some((word, mut rest)) = next_word(line) else {
         return fault_at(line, 0, Part::Keyword);
@@ -53,18 +66,31 @@ fn first_fault(line: &str) -> Fault<'_>
     };
     let form = keyword.form();
     for (index, part) in form.iter().enumerate() {
-        match next_word(rest) {
-            Some((word, after)) if part.fits(word) => rest = after,
-            _ => return fault_at(rest, index + 1, *part),
-        }
+        let Some(after) = fitting(rest, *part) else {
+            return fault_at(rest, index + 1, *part);
+        };
+        rest = after;
     }
     fault_at(rest, 1 + form.len(), Part::End)
+}
+
+// What comes after the first word of the rest of a line, if that is what has to stand there.
+#[tactic(auto, using(crate::proofs::Places::after_word))]
+fn fitting(rest: &str, part: Part) -> Option<&str>
+    ensures rest { IfSome result (λ after. (line : List (List ℕ)) (place : ℕ) → words rest.now ≡ drop place line → words after.now ≡ drop (place + 1) line) }
+    ensures some { IfSome result (λ after. (form : List Part) (place : ℕ) (expected : Part) →
+        FaultAt form (words after.now) place expected → FaultAt (part ∷ form) (words rest.now) (suc place) expected) }
+    ensures none { IfNone result ((form : List Part) → FaultAt (part ∷ form) (words rest.now) 0 part) }
+{
+    let (word, after) = next_word(rest)?;
+    if part.fits(word) { Some(after) } else { None }
 }
 
 // The first word of the rest of a line is not what has to stand at its place.
 #[tactic(auto, using(crate::proofs::Places::word_at, crate::proofs::Places::line_ends))]
 fn fault_at(rest: &str, place: usize, expected: Part) -> Fault<'_>
-    ensures { (line : List (List ℕ)) → words rest.now ≡ drop place line → FoundAt result.found result.place line }
+    ensures told { (result.place ≡ place) × (result.expected ≡ expected) }
+    ensures found { (line : List (List ℕ)) → words rest.now ≡ drop place line → FoundAt result.found result.place line }
 {
     let found = match next_word(rest) {
         Some((word, _)) => Some(word),
@@ -79,33 +105,74 @@ fn fault_at(rest: &str, place: usize, expected: Part) -> Fault<'_>
 
 impl Keyword {
     // What follows it in its line.
-    fn form(self) -> &'static [Part] {
+    fn form(self) -> &'static [Part]
+        ensures { result.now ≡ form_of self }
+    {
         match self {
-            Keyword::Train => &[Part::Number; 5],
-            Keyword::Tick => &[
+            Keyword::Train => &[
                 Part::Number,
-                Part::Word("wish"),
-                Part::Wish,
-                Part::Word("speed"),
+                Part::Number,
+                Part::Number,
+                Part::Number,
                 Part::Number,
             ],
-            Keyword::Hear => &[Part::Number, Part::Word("message"), Part::Number],
-            Keyword::Tell | Keyword::Grant => &[Part::Number, Part::Word("train"), Part::Number],
-            Keyword::Take => &[Part::Word("message"), Part::Number],
+            Keyword::Tick => &[
+                Part::Number,
+                Part::Word(Between::Wish),
+                Part::Wish,
+                Part::Word(Between::Speed),
+                Part::Number,
+            ],
+            Keyword::Hear => &[Part::Number, Part::Word(Between::Message), Part::Number],
+            Keyword::Tell | Keyword::Grant => &[
+                Part::Number,
+                Part::Word(Between::Train),
+                Part::Number,
+            ],
+            Keyword::Take => &[Part::Word(Between::Message), Part::Number],
             _ => &[Part::Number],
         }
     }
 }
 
+impl Between {
+    fn text(self) -> &'static str
+        ensures { result.now ≡ text_of self }
+    {
+        match self {
+            Between::Wish => "wish",
+            Between::Speed => "speed",
+            Between::Message => "message",
+            Between::Train => "train",
+        }
+    }
+}
+
 impl Part {
-    fn fits(self, word: &str) -> bool {
+    // Whether the word is what has to stand there.
+    fn fits(self, word: &str) -> bool
+        ensures yes { result ≡ true → FitsPart self word.now }
+        ensures no { result ≡ false → FitsPart self word.now → ⊥ }
+    {
         match self {
             Part::Keyword => Keyword::of(word).is_some(),
             Part::Number => number(word).is_some(),
-            Part::Wish => number(word).is_some_and(|wish| wish <= SPEED_MAX),
-            Part::Word(expected) => word == expected,
+            Part::Wish => is_wish(word),
+            Part::Word(between) => word == between.text(),
             Part::End => false,
         }
+    }
+}
+
+// Whether the word writes a wish that a driver can have.
+#[tactic(auto, using(crate::proofs::Decimals::past_wish))]
+fn is_wish(word: &str) -> bool
+    ensures yes { result ≡ true → FitsPart Wish word.now }
+    ensures no { result ≡ false → (n : ℕ) → n ≤ speed_max → word.now ≢ decimal n }
+{
+    match number(word) {
+        Some(wish) => wish <= SPEED_MAX,
+        None => false,
     }
 }
 
@@ -117,7 +184,10 @@ impl fmt::Display for Part {
             ),
             Part::Number => f.write_str("a number below 2^64 without sign or leading zero"),
             Part::Wish => f.write_str("a wish from 0 to 10000"),
-            Part::Word(word) => write!(f, "'{word}'"),
+            Part::Word(between) => {
+                let word = between.text();
+                write!(f, "'{word}'")
+            }
             Part::End => f.write_str("the end of the line"),
         }
     }

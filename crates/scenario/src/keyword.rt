@@ -1,5 +1,5 @@
 // The words that a line can begin with.
-ghost use Rattle.scenario.specs.Inside.{keyword_of, spelling};
+ghost use Rattle.scenario.specs.Keywords.{keyword_of, spelling};
 ghost use Rattle.std.specs.Prelude.{◌≡◌, IfSome};
 
 #[derive(Clone, Copy, PartialEq, Eq, Debug)]

@@ -1,6 +1,7 @@
 // Reading a line.
 ghost use Rattle.braking.specs.Limits.{speed_max};
-ghost use Rattle.scenario.specs.Inside.{NoEntry, spelling};
+ghost use Rattle.scenario.specs.Inside.{NoEntry};
+ghost use Rattle.scenario.specs.Keywords.{spelling};
 ghost use Rattle.scenario.specs.Lines.{EventFits, Fits, IsNumber, HeadFits, entry_words, event_words, head_words};
 ghost use Rattle.safety.specs.declared.event.Event.{Event};
 ghost use Rattle.scenario.specs.declared.entry.Entry.{Entry};
