@@ -1,10 +1,19 @@
 // Plays the text of a scenario.
+ghost use Rattle.bench.specs.Played.{Played, PlayedTo};
+ghost use Rattle.line.specs.Initial.{new_line};
+ghost use Rattle.line.specs.Steps.{state};
+ghost use Rattle.scenario.specs.declared.entry.HeadLine.{HeadLine};
+ghost use Rattle.scenario.specs.Heads.{brakes_of, controllers_of, trains_of};
+ghost use Rattle.scenario.specs.Texts.{left};
+ghost use Rattle.scenario.specs.declared.reader.Stop.TheVariants.{End};
+ghost use Rattle.std.specs.Prelude.{◌≡◌, ◌<◌, ℕ, List, [], None, IfNone, IfOk, IfSome, Ok, length};
+
 use crate::progress::Progress;
 use crate::refusal::{Reason, Refused};
 use braking::Refusal;
 use braking::limits::PLACE_MAX;
 use line::{Gaps, Line, NewError, Seen, Standing, StepError};
-use scenario::{Head, Reader, Stop, explain, misplaced_by, why_not};
+use scenario::{Head, HeadLine, Reader, Stop, explain, misplaced_by, why_not};
 use std::alloc::{AllocError, Global};
 use std::io::{self, Write};
 
@@ -30,8 +39,8 @@ impl<'a> From<io::Error> for PlayError<'a> {
     }
 }
 
-// Plays a text, and writes what is seen of its ticks if that is to be shown. Each piece of it is played by
-// `Line::run`, whose contract says what holds after each event.
+// Plays a text, and writes what is seen of its ticks if that is to be shown.
+#[tactic(auto, using(crate::proofs::Pieces::nothing_played))]
 pub fn play<'a, W: Write>(
     alloc: Global,
     text: &'a str,
@@ -39,47 +48,83 @@ pub fn play<'a, W: Write>(
     shown: bool,
     progress: &mut Progress<'_>,
     name: &str,
-) -> Result<Gaps, PlayError<'a>> {
+) -> Result<Gaps, PlayError<'a>>
+    ensures { IfOk result (λ gaps. Played text.now gaps) }
+{
     let mut reader = Reader::new(text);
-    let head = Head::of(alloc, &reader.head(alloc)?)?;
+    let head = reader.head(alloc)?;
     let mut line = new_line(alloc, &head)?;
-    let mut events = Vec::with_capacity(alloc, PIECE)?;
-    let mut lines = Vec::with_capacity(alloc, PIECE)?;
-    let mut seen: Vec<Seen> = Vec::with_capacity(alloc, PIECE)?;
+    let mut seen = Vec::with_capacity(alloc, PIECE)?;
     let mut gaps = Gaps {
         count: 0,
         smallest: None,
     };
-    for _ in 0..u64::MAX {
-        events.clear();
-        lines.clear();
-        seen.clear();
-        let stop = reader.events(PIECE, &mut events, &mut lines)?;
-        let run = line.run(&events, &mut seen);
-        gaps = gaps.and(run.gaps);
+    loop {
+        let played = play_piece(alloc, &mut reader, &mut line, &mut seen, gaps);
         if shown {
-            for tick in &seen {
-                writeln!(out, "{tick}")?;
-            }
+            write_ticks(out, &seen)?;
         }
-        if let Some(error) = run.stop {
-            return Err(stopped(&line, &events, &lines, run.done, error));
-        }
-        match stop {
-            None => progress.tell(
-                name,
-                text.len().saturating_sub(reader.bytes_left()),
-                text.len(),
-            )?,
-            Some(Stop::End) => break,
-            Some(Stop::Unreadable { line }) => return Err(unreadable(reader, line)),
-        }
+        let Some(more) = played? else {
+            return Ok(gaps);
+        };
+        gaps = more;
+        let done = text.len().saturating_sub(reader.bytes_left());
+        progress.tell(name, done, text.len())?;
     }
-    Ok(gaps)
+}
+
+// Plays the next events of a text, as many as a piece has, by `Line::run`, whose contract says what holds after each
+// of them. Answers what gaps there were so far, or nothing where there is no event more.
+fn play_piece<'a>(
+    alloc: Global,
+    reader: &mut Reader<'a>,
+    line: &mut Line,
+    seen: &mut Vec<Seen>,
+    gaps: Gaps,
+) -> Result<Option<Gaps>, PlayError<'a>>
+    ensures some { IfOk result (λ more. IfSome more (λ more. (text : List ℕ) (head : List HeadLine) →
+        PlayedTo text head (left reader.old) (state line.old.parts) gaps → PlayedTo text head (left reader.new) (state line.new.parts) more)) }
+    ensures none { IfOk result (λ more. IfNone more (left reader.old ≡ [])) }
+    ensures less { IfOk result (λ more. IfSome more (λ _. length (left reader.new) < length (left reader.old))) }
+{
+    let mut events = Vec::with_capacity(alloc, PIECE)?;
+    let mut lines = Vec::with_capacity(alloc, PIECE)?;
+    seen.clear();
+    let stop = reader.events(PIECE, &mut events, &mut lines)?;
+    let piece = events.as_slice();
+    if piece.is_empty() {
+        return no_more(*reader, stop);
+    }
+    let run = line.run(piece, seen);
+    match run.stop {
+        Some(error) => Err(stopped(line, piece, &lines, run.done, error)),
+        None => Ok(Some(gaps.and(run.gaps))),
+    }
+}
+
+// Why there is no event more: at the end of the text there is nothing wrong with that.
+fn no_more<'a>(reader: Reader<'a>, stop: Option<Stop>) -> Result<Option<Gaps>, PlayError<'a>>
+    ensures { IfOk result (λ more. (more ≡ None) × IfSome stop (λ stop. stop ≡ End)) }
+{
+    match stop {
+        Some(Stop::Unreadable { line }) => Err(unreadable(reader, line)),
+        _ => Ok(None),
+    }
+}
+
+// A line of text for each tick.
+fn write_ticks<W: Write>(out: &mut W, seen: &[Seen]) -> io::Result<()> {
+    for tick in seen {
+        writeln!(out, "{tick}")?;
+    }
+    Ok(())
 }
 
 // A line as the head gives it, or why no day can begin so.
-fn new_line<'a>(alloc: Global, head: &Head) -> Result<Line, PlayError<'a>> {
+fn new_line<'a>(alloc: Global, lines: &[HeadLine]) -> Result<Line, PlayError<'a>>
+    ensures { IfOk result (λ line. new_line (brakes_of lines.now) (trains_of lines.now) (controllers_of lines.now) ≡ Ok (state line.parts)) }
+{
+    let head = Head::of(alloc, lines)?;
     match Line::new(alloc, head.brakes, &head.trains, head.controllers as usize) {
         Ok(line) => Ok(line),
         Err(NewError::NoMemory) => Err(PlayError::NoMemory),

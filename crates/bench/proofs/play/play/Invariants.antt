@@ -1,0 +1,12 @@
+use Rattle.std.proofs.Common.{length}
+use Rattle.line.specs.Steps.{state}
+use Rattle.scenario.specs.Texts.{left}
+use Rattle.bench.specs.Played.{PlayedTo}
+use Rattle.bench.proofs.play.play.Given as goal
+
+-- the text was played up to what is left of it
+abbrev pub invariant-loop-out : goal.invariant-loop-out
+invariant-loop-out g l = PlayedTo l.text l.head.items (left l.reader) (state l.line.parts) l.gaps
+
+abbrev pub decreases-loop-out : goal.decreases-loop-out
+decreases-loop-out g l = length (left l.reader)
