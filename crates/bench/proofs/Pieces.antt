@@ -7,13 +7,15 @@ use Rattle.line.specs.Initial.{new_line}
 use Rattle.safety.specs.declared.event.Event.{Event}
 use Rattle.safety.specs.State.{State}
 use Rattle.safety.specs.Events.{CanBe, after_event, after_events}
+use Rattle.line.proofs.Beginnings.{new_came}
+use Rattle.safety.proofs.Coming.{all_promised}
 use Rattle.scenario.specs.declared.entry.HeadLine.{HeadLine}
 use Rattle.scenario.specs.Heads.{brakes_of, controllers_of, trains_of}
 use Rattle.scenario.specs.declared.reader.Stop.{Stop}
 use Rattle.scenario.specs.declared.reader.Stop.TheVariants.{End}
 use Rattle.scenario.specs.Ends.{Stopped}
 use Rattle.scenario.specs.Texts.{Said, said, HeadRead, EventsRead}
-use Rattle.bench.specs.Played.{PlayedTo}
+use Rattle.bench.specs.Played.{PlayedTo, Played}
 
 more_read : (text middle rest : List Said) (lines more_lines : List ℕ) (events more : List Event) →
     EventsRead text lines events middle → EventsRead middle more_lines more rest → EventsRead text (lines ++ more_lines) (events ++ more) rest
@@ -114,3 +116,15 @@ pub no_more_told : {A E : Type 0} (answer : Result (Option A) E) (stop : Option 
 no_more_told (Err e) stop P so told = tt
 no_more_told (Ok None) stop P so told = so told.1
 no_more_told (Ok (Some x)) stop P so told = tt
+
+-- the whole text was played
+pub all_played : (text : List ℕ) (head : List HeadLine) (rest : List Said) (now : State) (gaps : Gaps) → PlayedTo text head rest now gaps → rest ≡ [] → Played text gaps
+all_played text head rest now gaps played none =
+    let all : PlayedTo text head [] now gaps = subst (λ rest. PlayedTo text head rest now gaps) none played in
+    let whole : take (length all.events) all.events ≡ all.events = take_all (length all.events) all.events (omega arith) in
+    record {
+      head = head;
+      now = now;
+      all = all;
+      promised = all_promised all.first all.events (length all.events) (new_came (brakes_of head) (trains_of head) (controllers_of head) all.first all.made) (rw whole all.can_be);
+    }

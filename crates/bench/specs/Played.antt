@@ -1,11 +1,12 @@
 -- What it is to play a text. Assumes nothing: these are definitions.
-use Rattle.std.specs.Prelude.{◌≡◌, ℕ, ◌<◌, ◌^◌, List, [], length, Ok}
+use Rattle.std.specs.Prelude.{◌≡◌, ℕ, ◌<◌, ◌≤◌, ◌^◌, List, [], length, take, Ok}
 use Rattle.line.specs.declared.gaps.Gaps.{Gaps}
 use Rattle.line.specs.Initial.{new_line}
 use Rattle.line.specs.Runs.{Counted, gaps_of}
 use Rattle.safety.specs.declared.event.Event.{Event}
 use Rattle.safety.specs.State.{State}
 use Rattle.safety.specs.Events.{CanBe, after_events}
+use Rattle.safety.specs.Promises.{AllPromised}
 use Rattle.scenario.specs.declared.entry.HeadLine.{HeadLine}
 use Rattle.scenario.specs.Heads.{brakes_of, controllers_of, trains_of}
 use Rattle.scenario.specs.Texts.{Said, said, HeadRead, EventsRead}
@@ -24,8 +25,9 @@ pub record PlayedTo (text : List ℕ) (head : List HeadLine) (rest : List Said) 
   pub is : now ≡ after_events first events
   pub counted : length (gaps_of first events) < 2 ^ 128 → Counted gaps (gaps_of first events)
 
--- all of it was
+-- all of it was, and after each of its events everything held that is promised of a line
 pub record Played (text : List ℕ) (gaps : Gaps) : Type 0 where
   pub head : List HeadLine
   pub now : State
   pub all : PlayedTo text head [] now gaps
+  pub promised : (n : ℕ) → n ≤ length all.events → AllPromised (after_events all.first (take n all.events))
