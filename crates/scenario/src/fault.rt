@@ -40,7 +40,7 @@ pub struct Fault<'a> {
     pub found: Option<&'a str>,
 }
 
-// The first fault of a line that is no entry.
+// The first fault of a line that is no entry. (A line that says nothing is none: there a first word is missing, or wrong.)
 pub fn explain(line: &str) -> Option<Fault<'_>>
     ensures readable { IfNone result (Readable (words line.now)) }
     ensures fault { IfSome result (λ _. Readable (words line.now) → ⊥) }
