@@ -104,16 +104,26 @@ fn play_files(rt: &HostRuntime, arguments: &Arguments) -> io::Result<ExitCode> {
     Ok(ExitCode::SUCCESS)
 }
 
-fn main(rt: HostRuntime) -> io::Result<ExitCode> {
-    let given: Vec<String> = env::args(&rt)?.skip(1).collect(rt.alloc())?;
+fn run(rt: &HostRuntime) -> io::Result<ExitCode> {
+    let given: Vec<String> = env::args(rt)?.skip(1).collect(rt.alloc())?;
     match read_arguments(rt.alloc(), &given) {
         Ok(Request::Help) => println!(rt; "{USAGE}")?,
         Ok(Request::Version) => println!(rt; "{VERSION}")?,
-        Ok(Request::Play(arguments)) => return play_files(&rt, &arguments),
+        Ok(Request::Play(arguments)) => return play_files(rt, &arguments),
         Err(error) => {
             eprintln!(rt; "bench: {error}")?;
             return Ok(ExitCode::from(2));
         }
     }
     Ok(ExitCode::SUCCESS)
+}
+
+fn main(rt: HostRuntime) -> io::Result<ExitCode> {
+    match run(&rt) {
+        Ok(code) => Ok(code),
+        Err(error) => {
+            eprintln!(rt; "bench: what it prints cannot be written: {error}")?;
+            Ok(ExitCode::FAILURE)
+        }
+    }
 }
