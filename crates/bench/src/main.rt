@@ -18,12 +18,18 @@ use text::read_text;
 const USAGE: &str = "usage: bench [--quiet] [--check] [FILE]...
 
 Plays scenarios: each FILE says how a day begins on a line of trains, and what happens, one event a line.
-'-', or no FILE at all, is standard input. docs/FORMATS.md says how scenarios are written.
+'-', or no FILE at all, is standard input.
 
 Prints a line for each tick: the train, whether its unit lets the driver drive or brakes, the speed that the
 train then has, and where its front is; at the end how many gaps between trains were looked at, and the
 smallest. Places are in decimetres from the foot of the line, speeds in decimetres a tick.
 
+A scenario has, one a line: first brake N, blur N, controllers N (8 if not given), and for each train, the
+foremost first, train LOW FRONT HIGH END LENGTH; then events: tick I wish W speed V, mark I, report I,
+hear C message M, tell C train I, grant C train I, take message M, restart C. A line that begins with # is a
+comment. Trains, controllers and messages are numbered from 0.
+
+Options come before the files; after '--' all are files.
   --quiet    leaves out the ticks, and progress on long runs
   --check    says of each file in one line whether it is taken or how it is refused, and goes on
   --help     prints this
@@ -40,8 +46,8 @@ fn play_file(rt: &HostRuntime, name: &str, arguments: &Arguments) -> io::Result<
         Err(error) => return tell(rt, arguments, format_args!("{name}: {error}")),
     };
     let mut out = BufWriter::with_capacity(rt.alloc(), 1 << 16, io::writer(rt))?;
-    let mut progress = Progress::new(rt, arguments.quiet)?;
     let shown = !arguments.quiet && !arguments.check;
+    let mut progress = Progress::new(rt, arguments.quiet, shown)?;
     let played = play(
         rt.alloc(),
         text.as_str(),
@@ -105,7 +111,13 @@ fn play_files(rt: &HostRuntime, arguments: &Arguments) -> io::Result<ExitCode> {
 }
 
 fn run(rt: &HostRuntime) -> io::Result<ExitCode> {
-    let given: Vec<String> = env::args(rt)?.skip(1).collect(rt.alloc())?;
+    let Ok(words) = env::args(rt) else {
+        eprintln!(rt;
+            "bench: an argument is not UTF-8, or there is not enough memory for the arguments"
+        )?;
+        return Ok(ExitCode::from(2));
+    };
+    let given: Vec<String> = words.skip(1).collect(rt.alloc())?;
     match read_arguments(rt.alloc(), &given) {
         Ok(Request::Help) => println!(rt; "{USAGE}")?,
         Ok(Request::Version) => println!(rt; "{VERSION}")?,

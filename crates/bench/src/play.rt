@@ -13,11 +13,12 @@ use crate::refusal::{Reason, Refused};
 use braking::Refusal;
 use braking::limits::PLACE_MAX;
 use line::{Gaps, Line, NewError, Seen, Standing, StepError};
-use scenario::{Head, HeadLine, Reader, Stop, explain, misplaced_by, why_not};
+use scenario::{Head, HeadLine, Reader, Stop, explain, misplaced_by, read_head_line, why_not};
 use std::alloc::{AllocError, Global};
 use std::io::{self, Write};
 
-// So many events are read and then run at once, so that long scenarios need no more memory than their text.
+// So many events are read and then run at once, so that a long scenario needs no more memory than its text and the
+// messages that were sent.
 const PIECE: usize = 4096;
 
 #[derive(Drop)]
@@ -174,13 +175,13 @@ fn stopped<'a>(
 
 // Why the next line, of this number, cannot be read as an event.
 fn unreadable<'a>(mut reader: Reader<'a>, line: u64) -> PlayError<'a> {
-    let fault = match reader.next_said() {
-        Some(said) => explain(said.text),
-        None => None,
+    let Some(said) = reader.next_said() else {
+        return PlayError::Refused(Refused::at_line(line, Reason::Listed));
     };
-    let reason = match fault {
-        Some(fault) => Reason::Fault(fault),
-        None => Reason::AfterHead,
+    let reason = match (read_head_line(said.text), explain(said.text)) {
+        (Some(head), _) => Reason::AfterHead(head),
+        (None, Some(fault)) => Reason::Fault(fault),
+        (None, None) => Reason::Listed,
     };
     PlayError::Refused(Refused::at_line(line, reason))
 }

@@ -3,7 +3,7 @@ use std::io;
 use std::io::IsTerminal;
 use std::time::{Duration, Instant};
 
-// Told once a second, from the second second of the run on.
+// Told once a second, and never in the first.
 #[derive(Drop)]
 pub struct Progress<'a> {
     rt: &'a HostRuntime,
@@ -15,10 +15,11 @@ pub struct Progress<'a> {
 }
 
 impl<'a> Progress<'a> {
-    pub fn new(rt: &'a HostRuntime, quiet: bool) -> io::Result<Progress<'a>> {
+    // Ticks that go to a terminal too would be broken by it.
+    pub fn new(rt: &'a HostRuntime, quiet: bool, ticks: bool) -> io::Result<Progress<'a>> {
         Ok(Progress {
             rt,
-            silent: quiet || !rt.stderr().is_terminal(),
+            silent: quiet || !rt.stderr().is_terminal() || (ticks && rt.stdout().is_terminal()),
             told: Instant::now(rt)?,
             shown: false,
         })
@@ -31,7 +32,7 @@ impl<'a> Progress<'a> {
         }
         self.told = Instant::now(self.rt)?;
         self.shown = true;
-        let percent = done / (all / 100).max(1);
+        let percent = done as u128 * 100 / (all as u128).max(1);
         eprint!(self.rt; "\rbench: {name}: {percent} % played ")
     }
 

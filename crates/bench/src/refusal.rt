@@ -1,6 +1,6 @@
 // A refusal of a scenario, as it is told to people.
 use braking::Refusal;
-use scenario::{Fault, Misplaced, WhyNot};
+use scenario::{Fault, HeadLine, Misplaced, WhyNot};
 use std::fmt;
 
 // Why something is refused, and what would be right.
@@ -10,10 +10,10 @@ pub enum Reason<'a> {
     Listed,
     // no day can begin with this train
     Misplaced(Misplaced),
-    // the line is none that there is
+    // the line is no line of a scenario
     Fault(Fault<'a>),
-    // the line is one of the head, and the head has ended
-    AfterHead,
+    // the line is this one of the head, and the head has ended
+    AfterHead(HeadLine),
     // the event cannot be
     WhyNot(WhyNot),
 }
@@ -45,11 +45,24 @@ impl<'a> fmt::Display for Refused<'a> {
             Reason::Listed => write!(f, "{refusal}"),
             Reason::Misplaced(wrong) => write!(f, "refused {number} at {place}: {wrong}"),
             Reason::Fault(fault) => write!(f, "refused {number} at {place}: {fault}"),
-            Reason::AfterHead => write!(
-                f,
-                "refused {number} at {place}: a line of the head comes before the first event, and brake, blur and controllers come once"
-            ),
+            Reason::AfterHead(line) => {
+                let comes = when_it_comes(line);
+                write!(
+                    f,
+                    "refused {number} at {place}: {comes} before the first event"
+                )
+            }
             Reason::WhyNot(why) => write!(f, "refused {number} at {place}: {why}"),
         }
+    }
+}
+
+// Where a line of the head has its place.
+fn when_it_comes(line: HeadLine) -> &'static str {
+    match line {
+        HeadLine::Brake(_) => "brake comes once,",
+        HeadLine::Blur(_) => "blur comes once,",
+        HeadLine::Controllers(_) => "controllers comes once,",
+        HeadLine::Train(_) => "train comes",
     }
 }

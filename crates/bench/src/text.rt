@@ -47,11 +47,11 @@ fn read_input(rt: &HostRuntime) -> io::Result<Vec<u8>> {
     Ok(bytes)
 }
 
-// A regular file in one piece, since its size is known; another one as it comes.
+// A regular file in one piece, where its size is known; another one as it comes.
 fn read_file(rt: &HostRuntime, name: &str) -> io::Result<Vec<u8>> {
     let mut file = File::open(rt, name)?;
     let about = file.metadata()?;
-    if !about.is_file() {
+    if !about.is_file() || about.len() == 0 {
         return fs::read(rt, name);
     }
     let mut bytes = vec![in rt.alloc(); 0u8; about.len() as usize]?;

@@ -46,7 +46,8 @@ form_of keywords.Grant = parts.Number ∷ parts.Word between.Train ∷ parts.Num
 form_of keywords.Take = parts.Word between.Message ∷ parts.Number ∷ []
 form_of _ = parts.Number ∷ []
 
--- each word fits up to the place, where `expected` has to stand and does not
+-- each word fits up to the place, where `expected` has to stand and does not. (Where all words fit and no more follow, the
+-- line can be read: nothing is told of such a line.)
 abbrev pub FaultAt : List Part → List (List ℕ) → (place : ℕ) → (expected : Part) → Type 0
 FaultAt [] words place expected = (place ≡ 0) × (expected ≡ parts.End)
 FaultAt (part ∷ form) [] place expected = (place ≡ 0) × (expected ≡ part)

@@ -1,4 +1,5 @@
--- What functions of this crate that no other calls are said to do. Assumes nothing: these are definitions.
+-- What functions inside this crate ensure to one another. No public contract names it, so nobody has to believe it: these
+-- are definitions.
 use Rattle.std.specs.Prelude.{◌≡◌, ◌≢◌, ◌≤◌, ℕ, ◌∷◌, [], decimal, List, length, slice_index, codes}
 use Rattle.braking.specs.Limits.{speed_max}
 use Rattle.scenario.specs.Lines.{IsNumber}

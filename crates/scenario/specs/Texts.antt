@@ -43,7 +43,7 @@ said text = said_from 0 (text_lines text)
 abbrev pub left : Reader → List Said
 left reader = said_from reader.line (text_lines reader.rest.now)
 
--- the lines of the head that may come once
+-- whether two lines give the same thing, of those that come only once
 abbrev pub same_kind : HeadLine → HeadLine → Bool
 same_kind (heads.Brake m) (heads.Brake n) = true
 same_kind (heads.Blur m) (heads.Blur n) = true
