@@ -109,7 +109,7 @@ none_read text rest lines (e ∷ events) none read = absurd (grind (arith, none)
 pub no_event_left : (text rest : List Said) (lines : List ℕ) (events : List Event) (stop : Option Stop) → length events ≡ 0 → EventsRead text lines events rest →
     Stopped stop 4096 events rest → IfSome stop (λ s. s ≡ End) → text ≡ []
 no_event_left text rest lines events None none read stopped end = absurd (grind (arith, none, stopped))
-no_event_left text rest lines events (Some stop) none read stopped end = none_read text rest lines events none read ∙ (rw end at stopped)
+no_event_left text rest lines events (Some stop) none read stopped end = none_read text rest lines events none read ∙ (rw end at stopped.1)
 
 pub no_more_told : {A E : Type 0} (answer : Result (Option A) E) (stop : Option Stop) (P : Type 0) → (IfSome stop (λ s. s ≡ End) → P) →
     IfOk answer (λ more. (more ≡ None) × IfSome stop (λ s. s ≡ End)) → IfOk answer (λ more. IfNone more P)

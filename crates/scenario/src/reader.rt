@@ -91,8 +91,8 @@ impl<'a> Reader<'a> {
         Some(line)
     }
 
-    // Reads events, until there are `limit` in the list that is lent: each with the number of its line. Answers why
-    // it stopped before that, if it did.
+    // Reads events, at most `limit`, each with the number of its line, into the lists that are lent in place of what
+    // was there. Answers why there are fewer, if there are.
     #[tactic(auto, using(crate::proofs::Readings::one_more))]
     pub fn events(
         &mut self,
@@ -100,11 +100,12 @@ impl<'a> Reader<'a> {
         events: &mut Vec<Event>,
         lines: &mut Vec<u64>,
     ) -> Result<Option<Stop>, AllocError>
-        ensures read { (before : List Said) → EventsRead before lines.old.items events.old.items (left self.old)
-            → EventsRead before lines.new.items events.new.items (left self.new) }
+        ensures read { EventsRead (left self.old) lines.new.items events.new.items (left self.new) }
         ensures stopped { IfOk result (λ stop. Stopped stop limit events.new.items (left self.new)) }
-        ensures full { OnErr result (Full events.new ⊎ Full lines.new) }
+        ensures full { OnErr result ((length events.new.items < limit) × (Full events.new ⊎ Full lines.new)) }
     {
+        events.clear();
+        lines.clear();
         while events.len() < limit {
             events.reserve(1)?;
             lines.reserve(1)?;

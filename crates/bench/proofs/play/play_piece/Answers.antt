@@ -1,4 +1,4 @@
-use Rattle.std.proofs.Common.{◌≡◌, ◌<◌, length, refl, arith}
+use Rattle.std.proofs.Common.{◌≡◌, ◌<◌, length, arith}
 use Rattle.line.specs.Steps.{state}
 use Rattle.scenario.specs.Texts.{left}
 use Rattle.bench.proofs.Pieces.{piece_played, less_left, no_event_left, no_more_told}
@@ -7,7 +7,7 @@ use Rattle.bench.proofs.play.play_piece.Goals as goal
 
 pub returns-then-is_empty-clause-none : goal.returns-then-is_empty-clause-none
 returns-then-is_empty-clause-none c =
-    let read = c.events.ensures.read (left c.args.reader.now) (rw (c.in_ok-lines.ensures.items, c.in_ok-events.ensures.items) refl) in
+    let read = c.events.ensures.read in
     let items = c.as_slice-piece.ensures.value in
     let none : length c.as_slice-piece.result.now ≡ 0 = grind (arith, nat_tests, c.if-is_empty.ensures) in
     let empty : length c.events.new.events.items ≡ 0 = rw items at none in
@@ -16,7 +16,7 @@ returns-then-is_empty-clause-none c =
 
 pub returns-clause-some : goal.returns-clause-some
 returns-clause-some c text head played =
-    let read = c.events.ensures.read (left c.args.reader.now) (rw (c.in_ok-lines.ensures.items, c.in_ok-events.ensures.items) refl) in
+    let read = c.events.ensures.read in
     let items = c.as_slice-piece.ensures.value in
     piece_played text head (left c.args.reader.now) (left c.events.new.self) (state c.args.line.now.parts) (state c.run-run.new.self.parts) c.args.gaps c.run-run.result.gaps c.and.result
     c.events.new.lines.items c.events.new.events.items c.run-run.result.done
@@ -25,7 +25,7 @@ returns-clause-some c text head played =
 
 pub returns-clause-less : goal.returns-clause-less
 returns-clause-less c =
-    let read = c.events.ensures.read (left c.args.reader.now) (rw (c.in_ok-lines.ensures.items, c.in_ok-events.ensures.items) refl) in
+    let read = c.events.ensures.read in
     let items = c.as_slice-piece.ensures.value in
     let some : 0 < length c.as_slice-piece.result.now = grind (arith, nat_tests, c.if-is_empty.ensures) in
     less_left _ _ c.events.new.lines.items c.events.new.events.items (rw items at some) read
