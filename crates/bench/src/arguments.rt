@@ -1,35 +1,33 @@
 // What the program is asked to do.
-use std::alloc::{AllocError, Global};
+ghost use Rattle.bench.specs.Asked.{Answers, asked, is_option, meaning_of, view, with_file};
+ghost use Rattle.bench.specs.declared.arguments.ArgumentError.TheVariants.{NoMemory};
+ghost use Rattle.std.specs.Prelude.{◌≡◌, IfErr, OnOk, map, string_bytes};
+
+use std::alloc::Global;
 use std::fmt;
 
 // Files are played in the order in which they are given.
 #[derive(Drop)]
-pub struct Arguments {
+pub struct Arguments<'a> {
     pub quiet: bool,
     pub check: bool,
-    pub files: Vec<String>,
+    pub files: Vec<&'a str>,
 }
 
 #[derive(Drop)]
-pub enum Request {
+pub enum Request<'a> {
     Help,
     Version,
-    Play(Arguments),
+    Play(Arguments<'a>),
 }
 
 #[derive(Debug, Drop)]
-pub enum ArgumentError {
-    Unknown(String),
+pub enum ArgumentError<'a> {
+    Unknown(&'a str),
     NoMemory,
 }
 
-impl From<AllocError> for ArgumentError {
-    fn from(_: AllocError) -> Self {
-        ArgumentError::NoMemory
-    }
-}
-
-impl fmt::Display for ArgumentError {
+impl<'a> fmt::Display for ArgumentError<'a> {
     fn fmt<W: fmt::Write>(&self, f: &mut fmt::Formatter<W>) -> fmt::Result {
         match self {
             ArgumentError::Unknown(option) => {
@@ -44,7 +42,12 @@ impl fmt::Display for ArgumentError {
 }
 
 // Options come before the files; after `--` all are files.
-pub fn read_arguments(alloc: Global, given: &[String]) -> Result<Request, ArgumentError> {
+pub fn read_arguments<'a>(
+    alloc: Global,
+    given: &'a [String],
+) -> Result<Request<'a>, ArgumentError<'a>>
+    ensures { Answers result (asked (map string_bytes given.now)) }
+{
     let mut arguments = Arguments {
         quiet: false,
         check: false,
@@ -52,24 +55,73 @@ pub fn read_arguments(alloc: Global, given: &[String]) -> Result<Request, Argume
     };
     let mut options = true;
     for word in given {
-        match word.as_str() {
-            "--help" if options => return Ok(Request::Help),
-            "--version" if options => return Ok(Request::Version),
-            "--quiet" if options => arguments.quiet = true,
-            "--check" if options => arguments.check = true,
-            "--" if options => options = false,
-            other if options && other.starts_with('-') && other.len() > 1 => {
-                return Err(ArgumentError::Unknown(word.clone()?));
-            }
-            _ => {
+        let word = word.as_str();
+        if !options {
+            arguments.add(word)?;
+            continue;
+        }
+        match Meaning::of(word) {
+            Meaning::Help => return Ok(Request::Help),
+            Meaning::Version => return Ok(Request::Version),
+            Meaning::Quiet => arguments.quiet = true,
+            Meaning::Check => arguments.check = true,
+            Meaning::FilesFollow => options = false,
+            Meaning::Unknown => return Err(ArgumentError::Unknown(word)),
+            Meaning::File => {
                 options = false;
-                arguments.files.push(word.clone()?).map_err(|_| AllocError)?;
+                arguments.add(word)?;
             }
         }
     }
     if arguments.files.is_empty() {
-        let input = String::from_str(alloc, "-")?;
-        arguments.files.push(input).map_err(|_| AllocError)?;
+        arguments.add("-")?;
     }
     Ok(Request::Play(arguments))
+}
+
+impl<'a> Arguments<'a> {
+    #[tactic(auto, using(crate::proofs::Files::one_more_file))]
+    fn add(&mut self, file: &'a str) -> Result<(), ArgumentError<'a>>
+        ensures ok { OnOk result (view self.new ≡ with_file (view self.old) file.now) }
+        ensures err { IfErr result (λ error. error ≡ NoMemory) }
+    {
+        self.files.push(file).map_err(|_| ArgumentError::NoMemory)?;
+        Ok(())
+    }
+}
+
+// What a word means where options may come.
+#[derive(Clone, Copy)]
+enum Meaning {
+    Help,
+    Version,
+    Quiet,
+    Check,
+    FilesFollow,
+    Unknown,
+    File,
+}
+
+impl Meaning {
+    // A minus alone is standard input, and so a file.
+    fn of(word: &str) -> Meaning
+        ensures { result ≡ meaning_of word.now }
+    {
+        match word {
+            "--help" => Meaning::Help,
+            "--version" => Meaning::Version,
+            "--quiet" => Meaning::Quiet,
+            "--check" => Meaning::Check,
+            "--" => Meaning::FilesFollow,
+            _ if is_option(word) => Meaning::Unknown,
+            _ => Meaning::File,
+        }
+    }
+}
+
+// A minus and more.
+fn is_option(word: &str) -> bool
+    ensures { result ≡ is_option word.now }
+{
+    matches!(word.as_bytes(), [b'-', _, ..])
 }

@@ -103,7 +103,7 @@ fn play_files(rt: &HostRuntime, arguments: &Arguments) -> io::Result<ExitCode> {
         if headed {
             println!(rt; "== {name}")?;
         }
-        if !play_file(rt, name.as_str(), arguments)? {
+        if !play_file(rt, name, arguments)? {
             return Ok(ExitCode::FAILURE);
         }
     }

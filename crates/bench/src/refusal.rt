@@ -1,4 +1,7 @@
 // A refusal of a scenario, as it is told to people.
+ghost use Rattle.braking.specs.declared.refusal.Refusal.TheVariants.{Impossible};
+ghost use Rattle.std.specs.Prelude.{◌≡◌, Some};
+
 use braking::Refusal;
 use scenario::{Fault, HeadLine, Misplaced, WhyNot};
 use std::fmt;
@@ -27,7 +30,9 @@ pub struct Refused<'a> {
 }
 
 impl<'a> Refused<'a> {
-    pub fn at_line(line: u64, reason: Reason<'a>) -> Refused<'a> {
+    pub fn at_line(line: u64, reason: Reason<'a>) -> Refused<'a>
+        ensures { (result.line ≡ Some line) × (result.refusal ≡ Impossible line) × (result.reason ≡ reason.entry) }
+    {
         Refused {
             line: Some(line),
             refusal: Refusal::Impossible { line },

@@ -1,0 +1,77 @@
+-- What the words of a command line ask for. Assumes nothing: these are definitions.
+use Rattle.std.specs.Prelude.{◌≡◌, ℕ, Bool, true, false, ◌==◌, ◌&&◌, List, [], ◌∷◌, ◌++◌, length, map, codes, nat_lt, slice_index, if◌then◌else◌, Ok, Err, Result}
+use Rattle.std.specs.Str.{bytes_eq}
+use Rattle.bench.specs.declared.arguments.Arguments.{Arguments}
+use Rattle.bench.specs.declared.arguments.Request.{Request}
+use Rattle.bench.specs.declared.arguments.Request.TheVariants as requests
+use Rattle.bench.specs.declared.arguments.Meaning.{Meaning}
+use Rattle.bench.specs.declared.arguments.Meaning.TheVariants as meanings
+use Rattle.bench.specs.declared.arguments.ArgumentError.{ArgumentError}
+use Rattle.bench.specs.declared.arguments.ArgumentError.TheVariants as errors
+
+-- what is to be played, and how
+pub record Playing : Type 0 where
+  pub quiet : Bool
+  pub check : Bool
+  pub files : List (List ℕ)
+
+pub data Asked : Type 0 where
+  help : Asked
+  version : Asked
+  unknown : (option : List ℕ) → Asked
+  play : Playing → Asked
+
+-- a word that looks like an option: a minus and more
+abbrev pub is_option : List ℕ → Bool
+is_option word = (slice_index word 0 == 45) && nat_lt 1 (length word)
+
+-- what a word means where options may come
+abbrev pub meaning_of : List ℕ → Meaning
+meaning_of word =
+    if bytes_eq word (codes "--help") then meanings.Help
+    else (if bytes_eq word (codes "--version") then meanings.Version
+    else (if bytes_eq word (codes "--quiet") then meanings.Quiet
+    else (if bytes_eq word (codes "--check") then meanings.Check
+    else (if bytes_eq word (codes "--") then meanings.FilesFollow
+    else (if is_option word then meanings.Unknown
+    else meanings.File)))))
+
+-- with no file, standard input, named by a minus
+abbrev pub with_input : List (List ℕ) → List (List ℕ)
+with_input [] = codes "-" ∷ []
+with_input (file ∷ files) = file ∷ files
+
+abbrev pub with_file : Playing → List ℕ → Playing
+with_file p file = record p { files = p.files ++ file ∷ [] }
+
+-- what is asked for, by what a word means: the last four are what is asked for if it is no end
+abbrev pub by_meaning : Meaning → (word : List ℕ) → (quiet check files_follow file : Asked) → Asked
+by_meaning meanings.Help word quiet check files_follow file = help
+by_meaning meanings.Version word quiet check files_follow file = version
+by_meaning meanings.Quiet word quiet check files_follow file = quiet
+by_meaning meanings.Check word quiet check files_follow file = check
+by_meaning meanings.FilesFollow word quiet check files_follow file = files_follow
+by_meaning meanings.Unknown word quiet check files_follow file = unknown word
+by_meaning meanings.File word quiet check files_follow file = file
+
+-- word after word; options come before the first file, and before --
+abbrev pub asked_after : (options : Bool) → Playing → List (List ℕ) → Asked
+asked_after options p [] = play (record p { files = with_input p.files })
+asked_after false p (word ∷ words) = asked_after false (with_file p word) words
+asked_after true p (word ∷ words) =
+    by_meaning (meaning_of word) word (asked_after true (record p { quiet = true }) words) (asked_after true (record p { check = true }) words)
+    (asked_after false p words) (asked_after false (with_file p word) words)
+
+abbrev pub asked : List (List ℕ) → Asked
+asked = asked_after true (record { quiet = false; check = false; files = [] })
+
+-- the answer is what is asked for, unless memory is wanting
+abbrev pub view : Arguments → Playing
+view a = record { quiet = a.quiet; check = a.check; files = map (λ file. file.now) a.files.items }
+
+abbrev pub Answers : Result Request ArgumentError → Asked → Type 0
+Answers (Ok requests.Help) a = a ≡ help
+Answers (Ok requests.Version) a = a ≡ version
+Answers (Ok (requests.Play arguments)) a = a ≡ play (view arguments)
+Answers (Err (errors.Unknown option)) a = a ≡ unknown option.now
+Answers (Err errors.NoMemory) a = Unit {0}
