@@ -46,16 +46,26 @@ smallest_right (first ∷ rest) = lesser_right (smallest_of rest) first rest (sm
 pub count_right : (g : Gaps) (gaps : List ℕ) → g ≡ count_of gaps → Counted g gaps
 count_right g gaps e = subst (λ (h : Gaps). Counted h gaps) (sym e) (record { count = refl; smallest = smallest_right gaps })
 
+-- and only that is
+one_smallest : (o p : Option ℕ) (gaps : List ℕ) → Smallest o gaps → Smallest p gaps → o ≡ p
+one_smallest None None gaps h k = refl
+one_smallest None (Some least) gaps h k = absurd (subst (Among least) h k.0)
+one_smallest (Some least) None gaps h k = absurd (subst (Among least) k h.0)
+one_smallest (Some least) (Some other) gaps h k = ap Some (omega (arith, h.1 other k.0, k.1 least h.0))
+
+pub count_is : (g : Gaps) (gaps : List ℕ) → Counted g gaps → g ≡ count_of gaps
+count_is g gaps h = grind (arith, h.count, one_smallest g.smallest (smallest_of gaps) gaps h.smallest (smallest_right gaps))
+
 -- the gaps of two lists are those of both
-among_first : (n : ℕ) (before after : List ℕ) → Among n before → Among n (before ++ after)
+pub among_first : (n : ℕ) (before after : List ℕ) → Among n before → Among n (before ++ after)
 among_first n [] after among = absurd among
 among_first n (first ∷ before) after among = elim among [ inl e ↦ inl e | inr rest ↦ inr (among_first n before after rest) ]
 
-among_next : (n : ℕ) (before after : List ℕ) → Among n after → Among n (before ++ after)
+pub among_next : (n : ℕ) (before after : List ℕ) → Among n after → Among n (before ++ after)
 among_next n [] after among = among
 among_next n (first ∷ before) after among = inr (among_next n before after among)
 
-least_of_both : (least : ℕ) (before after : List ℕ) → ((n : ℕ) → Among n before → least ≤ n) → ((n : ℕ) → Among n after → least ≤ n) →
+pub least_of_both : (least : ℕ) (before after : List ℕ) → ((n : ℕ) → Among n before → least ≤ n) → ((n : ℕ) → Among n after → least ≤ n) →
     (n : ℕ) → Among n (before ++ after) → least ≤ n
 least_of_both least [] after one other n among = other n among
 least_of_both least (first ∷ before) after one other n among = elim among [

@@ -1,9 +1,11 @@
 -- What functions inside this crate ensure to one another. No public contract names it, so nobody has to believe it: these
 -- are definitions.
-use Rattle.std.specs.Prelude.{◌≡◌, ℕ, ◌+◌, ◌≤◌, min, true, false, List, [], ◌∷◌, ◌++◌, length, Some, None, Option, Ok, Err, Result}
+use Rattle.std.specs.Prelude.{◌≡◌, ℕ, zero, suc, ◌+◌, ◌<◌, ◌≤◌, min, true, false, List, [], ◌∷◌, ◌++◌, length, Some, None, Option, Ok, Err, Result}
 use Rattle.braking.specs.declared.refusal.Refusal.{Refusal}
 use Rattle.braking.specs.Limits.{speed_max, place_max}
+use Rattle.controller.specs.Hearings.{Among}
 use Rattle.safety.specs.declared.event.Event.{Event}
+use Rattle.safety.specs.declared.event.Event.TheVariants.{Tick}
 use Rattle.safety.specs.State.{State, train_at}
 use Rattle.safety.specs.Events.{can_be, with_sent, after_event}
 use Rattle.line.specs.declared.gaps.Gaps.{Gaps}
@@ -11,7 +13,7 @@ use Rattle.line.specs.declared.seen.Seen.{Seen}
 use Rattle.line.specs.declared.step_error.StepError.{StepError}
 use Rattle.line.specs.declared.step_error.StepError.TheVariants.{Impossible, NoMemory}
 use Rattle.line.specs.Steps.{seen_at}
-use Rattle.line.specs.Runs.{NoRoom, one_or_none}
+use Rattle.line.specs.Runs.{NoRoom, gap, one_or_none}
 
 -- a train's front and speed are in their limits, so that sums with them are too
 pub record InLimits (s : State) (train : ℕ) : Type 0 where
@@ -55,3 +57,22 @@ abbrev pub smaller : Option ℕ → Option ℕ → Option ℕ
 smaller (Some one) (Some other) = Some (min one other)
 smaller None other = other
 smaller (Some one) None = Some one
+
+-- gaps counted, and so many more, of which at most one is smaller than all before
+abbrev pub with_more : Gaps → ℕ → Option ℕ → Gaps
+with_more g more narrowed = record { count = g.count + more; smallest = smaller g.smallest narrowed }
+
+-- the gap that an event can have made smaller: the one ahead of a train that a tick moves
+abbrev pub narrowed : State → Event → Option ℕ
+narrowed t (Tick zero wish speed) = None
+narrowed t (Tick (suc ahead) wish speed) = Some (gap t ahead)
+narrowed t _ = None
+
+-- t is the line after an event that could be in s
+pub record After (s : State) (e : Event) (t : State) : Type 0 where
+  pub can_be : can_be s e ≡ true
+  pub is : t ≡ after_event s e
+
+-- every gap between neighbours is among some gaps
+abbrev pub AllAmong : State → List ℕ → Type 0
+AllAmong s gaps = (ahead : ℕ) → suc ahead < length s.trains → Among (gap s ahead) gaps

@@ -1,5 +1,5 @@
 // The gaps between trains.
-ghost use Rattle.line.specs.Inside.{count_of, smaller, with_gap};
+ghost use Rattle.line.specs.Inside.{count_of, smaller, with_gap, with_more};
 ghost use Rattle.line.specs.Runs.{Counted};
 ghost use Rattle.std.specs.Prelude.{◌≡◌, ℕ, ◌+◌, ◌<◌, ◌^◌, ◌++◌, List, [], length};
 
@@ -35,6 +35,17 @@ impl Gaps {
         Gaps {
             count: self.count + 1,
             smallest: Some(smallest),
+        }
+    }
+
+    // So many more were looked at; where any of them is smaller than all before, this one is the smallest.
+    pub(crate) fn with_more(self, more: usize, narrowed: Option<u64>) -> Self
+        requires { self.count + more < 2 ^ 128 }
+        ensures { result ≡ with_more self more narrowed }
+    {
+        Gaps {
+            count: self.count + more as u128,
+            smallest: smaller(self.smallest, narrowed),
         }
     }
 }

@@ -106,7 +106,11 @@ impl Line {
                     gaps,
                 };
             }
-            gaps = self.parts.with_gaps(gaps);
+            gaps = if done == 0 {
+                self.parts.with_gaps(gaps)
+            } else {
+                self.parts.with_gaps_after(gaps, *event)
+            };
         }
         Run {
             done: events.len(),

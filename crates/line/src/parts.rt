@@ -1,8 +1,9 @@
 // The trains, the controllers and what was sent, and what each event makes of them.
 ghost use Rattle.line.specs.Runs.{every_gap, gap};
-ghost use Rattle.line.specs.Inside.{InLimits, Sent, count_of};
+ghost use Rattle.line.specs.Inside.{After, AllAmong, InLimits, Sent, count_of, narrowed};
 ghost use Rattle.line.specs.Steps.{Full, Stepped, seen_at, state};
 ghost use Rattle.safety.specs.declared.event.Event.TheVariants.{Grant, Hear, Mark, Report, Restart, Take, Tell, Tick};
+ghost use Rattle.safety.specs.State.{State};
 ghost use Rattle.std.specs.Prelude.{◌≡◌, ℕ, ◌+◌, ◌<◌, ◌≤◌, ◌^◌, ◌++◌, IfOk, List, Some, length};
 
 use crate::gaps::Gaps;
@@ -58,6 +59,28 @@ impl Parts {
             gaps = gaps.with(self.gap(train));
         }
         gaps
+    }
+
+    // Looks at every gap between neighbours after an event, where every gap was looked at before it. No train goes
+    // back, so at most one gap has become smaller, and there is no need to go over all of them.
+    pub(crate) fn with_gaps_after(&self, gaps: Gaps, event: Event) -> Gaps
+        requires few { gaps.count + length self.now.trains.items < 2 ^ 128 }
+        requires there { (train wish speed : ℕ) → event ≡ Tick train wish speed → train < length self.now.trains.items }
+        ensures looked_at { (s : State) (before : List ℕ) → After s event (state self.now) → AllAmong s before → gaps ≡ count_of before → result ≡ count_of (before ++ every_gap (state self.now)) }
+        ensures few { result.count ≤ gaps.count + length self.now.trains.items }
+    {
+        gaps.with_more(self.trains.len().saturating_sub(1), self.narrowed(event))
+    }
+
+    // The gap that the event may have made smaller: the one ahead of a train that came forward.
+    fn narrowed(&self, event: Event) -> Option<u64>
+        requires { (train wish speed : ℕ) → event ≡ Tick train wish speed → train < length self.now.trains.items }
+        ensures { result ≡ narrowed (state self.now) event }
+    {
+        match event {
+            Event::Tick { train, .. } if train > 0 => Some(self.gap(train as usize - 1)),
+            _ => None,
+        }
     }
 
     // The gap behind a train.
