@@ -1,4 +1,4 @@
-# What ./bench and ./test share: words to the person, the Rattle kit, Debian's packages. Sourced, not run.
+# What ./bench, ./test and ./speed share: words to the person, the Rattle kit, Debian's packages. Sourced, not run.
 
 say() { printf '%s: %s\n' "${0##*/}" "$*" >&2; }
 
@@ -16,6 +16,21 @@ need_kit() {
 # need COMMAND PACKAGE: installs Debian's PACKAGE where COMMAND is not found.
 need() {
     command -v "$1" >/dev/null && return
+    install_package "$1" "$2"
+    command -v "$1" >/dev/null || give_up "Debian's package '$2' did not bring '$1'"
+}
+
+# need_header HEADER PACKAGE: installs Debian's PACKAGE where gcc does not find the HEADER of a C library.
+need_header() {
+    has_header "$1" && return
+    install_package "$1" "$2"
+    has_header "$1" || give_up "Debian's package '$2' did not bring '$1'"
+}
+
+has_header() { gcc -E -include "$1" -x c /dev/null >/dev/null 2>&1; }
+
+# install_package WHAT PACKAGE: WHAT is missing, and Debian's PACKAGE has it.
+install_package() {
     say "'$1' is missing: installing Debian's package '$2'"
     local as_root=()
     if [[ $EUID -ne 0 ]]; then
@@ -24,5 +39,4 @@ need() {
     fi
     "${as_root[@]}" apt-get update >&2 && "${as_root[@]}" apt-get install -y "$2" >&2 ||
         give_up "Debian's package '$2' could not be installed"
-    command -v "$1" >/dev/null || give_up "Debian's package '$2' did not bring '$1'"
 }
