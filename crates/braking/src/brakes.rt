@@ -29,7 +29,8 @@ impl Brakes {
     }
 
     // The braking distance from `speed`: how far the front may still come after this tick, blur included.
-    // A loop and no chain of iterators: so it was asked for, and each turn is a tick of braking.
+    // A loop and no chain of iterators: so it was asked for, and each turn is a tick of braking. The blur of all ticks
+    // is added at once, so that a turn is as short as can be.
     pub fn braking_distance(self, speed: u64) -> Result<u64, Refusal>
         ensures value { result ≡ distance_checked self speed }
         ensures bound { IfOk result (λ d. d ≤ distance_max) }
@@ -38,10 +39,12 @@ impl Brakes {
         check_speed(speed)?;
         let mut left = speed;
         let mut distance = 0;
+        let mut ticks = 0;
         while left > self.brake {
             left -= self.brake;
-            distance += left + self.blur;
+            distance += left;
+            ticks += 1;
         }
-        Ok(distance)
+        Ok(distance + ticks * self.blur)
     }
 }

@@ -1,6 +1,7 @@
 -- What the loop over the ticks of braking keeps.
-use Rattle.std.proofs.Common.{◌≡◌, ◌+◌, ◌<◌, ◌≤◌}
+use Rattle.std.proofs.Common.{◌≡◌, ◌+◌, ◌*◌, ◌<◌, ◌≤◌}
 use Rattle.braking.specs.Distance.{distance, distance_max}
+use Rattle.braking.specs.Limits.{blur_max, speed_max}
 use Rattle.braking.specs.Laws.{Ruled}
 use Rattle.braking.proofs.brakes.Brakes.braking_distance.Given as goal
 
@@ -9,7 +10,10 @@ use Rattle.braking.proofs.brakes.Brakes.braking_distance.Given as goal
 abbrev pub invariant-loop-left : goal.invariant-loop-left
 invariant-loop-left l =
     (l.left ≤ l.speed)
-    × (l.distance + distance l.self l.left ≡ distance l.self l.speed)
+    × (l.ticks + l.left ≤ l.speed)
+    × (l.speed ≤ speed_max)
+    × (l.self.blur ≤ blur_max)
+    × (l.distance + l.ticks * l.self.blur + distance l.self l.left ≡ distance l.self l.speed)
     × (0 < l.self.brake)
     × (distance l.self l.speed ≤ distance_max)
     × Ruled l.self
