@@ -1,12 +1,10 @@
 // The controller, and its steps: each hands the controller back, with what it answers.
-ghost use Rattle.braking.specs.Limits.{train_max};
 ghost use Rattle.braking.specs.Refusals.{done, kept};
-ghost use Rattle.controller.specs.Steps.{after_hear, checked, granted, known, silent, told, with_report};
-ghost use Rattle.std.specs.Prelude.{◌≡◌, ◌≤◌};
+ghost use Rattle.controller.specs.Steps.{after_hear, checked, granted, known, silent, told};
+ghost use Rattle.std.specs.Prelude.{◌≡◌};
 
 use braking::Refusal;
 use braking::limits::TRAINS_MAX;
-use braking::refusal::handed_back;
 use message::Message;
 
 // Plain numbers that may lie in memory lent from elsewhere and hold anything: each step checks what it relies on.
@@ -27,11 +25,24 @@ impl Controller {
     }
 
     // A message has come: a report raises what is known of its train, if it is farther.
-    pub fn hear(self, message: Message) -> (Self, Result<(), Refusal>)
+    pub fn hear(mut self, message: Message) -> (Self, Result<(), Refusal>)
         ensures state { result.0 ≡ kept self (after_hear self message) }
         ensures word { result.1 ≡ done (after_hear self message) }
     {
-        handed_back(self, self.after_hear(message))
+        let word = self.hear_in_place(message);
+        (self, word)
+    }
+
+    // The same where it lies: a controller has 512 bytes, and they are not copied. The farther place is kept, whichever
+    // of the two is the newer; only a report tells a controller anything.
+    pub fn hear_in_place(&mut self, message: Message) -> Result<(), Refusal>
+        ensures state { self.new ≡ kept self.old (after_hear self.old message) }
+        ensures word { result ≡ done (after_hear self.old message) }
+    {
+        if let Message::Report { train, place } = checked(message)? {
+            self.heard[train as usize] = self.known(train).max(place);
+        }
+        Ok(())
     }
 
     // What it knows of a train, as a report to others.
@@ -58,42 +69,24 @@ impl Controller {
         (Controller::new(), ())
     }
 
-    // Only a report tells a controller anything.
-    fn after_hear(self, message: Message) -> Result<Self, Refusal>
-        ensures { result ≡ after_hear self message }
-    {
-        match checked(message)? {
-            Message::Report { train, place } => Ok(self.with_report(train, place)),
-            Message::Grant { .. } => Ok(self),
-        }
-    }
-
-    // The farther place is kept, whichever of the two is the newer.
-    fn with_report(self, train: u64, place: u64) -> Self
-        requires { train ≤ train_max }
-        ensures { result ≡ with_report self train place }
-    {
-        let mut heard = self.heard;
-        heard[train as usize] = self.known(train).max(place);
-        Controller { heard }
-    }
-
     // The place that it has for a train; 0 where there can be no such train.
-    fn known(self, train: u64) -> u64
-        ensures { result ≡ known self train }
+    fn known(&self, train: u64) -> u64
+        ensures { result ≡ known self.now train }
     {
         self.heard.get(train as usize).copied().unwrap_or(0)
     }
 
-    fn told(self, train: u64) -> Result<Message, Refusal>
-        ensures { result ≡ told self train }
+    // What `tell` answers.
+    pub fn told(&self, train: u64) -> Result<Message, Refusal>
+        ensures { result ≡ told self.now train }
     {
         let place = self.known(train);
         checked(Message::Report { train, place })
     }
 
-    fn granted(self, train: u64) -> Result<Message, Refusal>
-        ensures { result ≡ granted self train }
+    // What `grant` answers.
+    pub fn granted(&self, train: u64) -> Result<Message, Refusal>
+        ensures { result ≡ granted self.now train }
     {
         let place = self.known(train);
         // a train past the last number stays past it

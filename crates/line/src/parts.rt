@@ -156,7 +156,8 @@ impl Parts {
             .controllers
             .get_mut(controller as usize)
             .ok_or(StepError::Impossible)?;
-        *here = radio::hear(*here, bytes).0;
+        // bytes that are turned away leave the controller as it was
+        let _ = radio::hear_in_place(here, bytes);
         Ok(())
     }
 
@@ -170,7 +171,7 @@ impl Parts {
         if train as usize >= self.trains.len() {
             return Err(StepError::Impossible);
         }
-        let bytes = radio::tell(*here, train).1;
+        let bytes = radio::told(here, train);
         self.send(bytes)
     }
 
@@ -186,7 +187,7 @@ impl Parts {
         if behind >= self.trains.len() {
             return Err(StepError::Impossible);
         }
-        let bytes = radio::grant(*here, train).1;
+        let bytes = radio::granted(here, train);
         self.send(bytes)
     }
 

@@ -6,6 +6,6 @@ pub mod laws;
 mod sending;
 pub mod unit_end;
 
-pub use controller_end::{grant, hear, tell};
+pub use controller_end::{grant, granted, hear, hear_in_place, tell, told};
 pub use laws::radio_laws;
 pub use unit_end::{report, take};
