@@ -7,3 +7,4 @@ pub mod Places
 pub mod OneReading
 pub mod ReadBack
 pub mod FaultPlaces
+pub mod Plain

@@ -165,7 +165,7 @@ line_cut : (line rest : List ℕ) → list_all line_byte line ≡ true → text_
 unfolding text_lines
 line_cut line rest all = slice_split_at (λ byte. byte == 10) line 10 rest (all_so line_byte (λ byte. byte == 10) line no_feed all) refl
 
-said_entry : (n : ℕ) (entry : Entry) → Fits entry → (rest : List ℕ) →
+pub said_entry : (n : ℕ) (entry : Entry) → Fits entry → (rest : List ℕ) →
     said_from n (text_lines (line_text (entry_words entry) ++ rest)) ≡ record { line = n; words = entry_words entry } ∷ said_from (n + 1) (text_lines rest)
 said_entry n entry fits rest =
     let all = line_bytes (entry_words entry) (entry_is_written entry fits) in

@@ -1,6 +1,7 @@
 -- What functions inside this crate ensure to one another. No public contract names it, so nobody has to believe it: these
 -- are definitions.
-use Rattle.std.specs.Prelude.{◌≡◌, ◌≢◌, ◌≤◌, ℕ, ◌∷◌, [], decimal, List, length, slice_index, codes}
+use Rattle.std.specs.Prelude.{◌≡◌, ◌≢◌, ◌≤◌, ℕ, ◌∷◌, [], decimal, List, length, take, slice_index, codes}
+use Rattle.std.specs.Str.Parse.{AllDigits, digits_value}
 use Rattle.braking.specs.Limits.{speed_max}
 use Rattle.scenario.specs.Lines.{IsNumber}
 use Rattle.scenario.specs.declared.keyword.Keyword.{Keyword}
@@ -9,6 +10,10 @@ use Rattle.scenario.specs.declared.keyword.Keyword.TheVariants as keywords
 -- no plus stands first, and no zero before other digits
 abbrev pub IsPlain : List ℕ → Type 0
 IsPlain word = (slice_index word 0 ≢ 43) × (slice_index word 0 ≡ 48 → length word ≡ 1)
+
+-- the first bytes are digits, and write the number
+abbrev pub AreDigits : List ℕ → (count number : ℕ) → Type 0
+AreDigits text count number = AllDigits 10 (take count text) × (number ≡ digits_value 10 (take count text))
 
 -- no entry begins with the keyword and goes on with the words
 abbrev pub NoEntry : Keyword → List (List ℕ) → Type 0

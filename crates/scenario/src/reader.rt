@@ -9,6 +9,7 @@ ghost use Rattle.std.specs.Prelude.{◌≡◌, ◌≢◌, ◌<◌, ◌+◌, ◌^
 
 use crate::entry::HeadLine;
 use crate::left::Reader;
+use crate::plain_event::plain_event;
 use crate::reading::{read_event, read_head_line};
 use crate::words::next_word;
 use safety::Event;
@@ -125,6 +126,9 @@ impl<'a> Reader<'a> {
         ensures ok { IfOk result (λ next. EventsRead (left self.old) (next.0 ∷ []) (next.1 ∷ []) (left self.new)) }
         ensures err { IfErr result (λ stop. (left self.new ≡ left self.old) × Ends stop (left self.new)) }
     {
+        if let Some(event) = self.plain_event() {
+            return Ok(event);
+        }
         let mut after = *self;
         let Some(SaidLine { line, text }) = after.next_said() else {
             return Err(Stop::End);
@@ -132,6 +136,22 @@ impl<'a> Reader<'a> {
         let event = read_event(text).ok_or(Stop::Unreadable { line })?;
         *self = after;
         Ok((line, event))
+    }
+
+    // Takes the next event where it stands as it would be written, at the beginning of what is left.
+    fn plain_event(&mut self) -> Option<(u64, Event)>
+        ensures some { IfSome result (λ next. EventsRead (left self.old) (next.0 ∷ []) (next.1 ∷ []) (left self.new)) }
+        ensures none { IfNone result (self.new ≡ self.old) }
+    {
+        let (event, rest) = plain_event(self.rest.as_bytes())?;
+        let read = self.rest.len().saturating_sub(rest.len());
+        let rest = self.rest.get(read..)?;
+        let line = self.line;
+        *self = Reader {
+            rest,
+            line: line + 1,
+        };
+        Some((line, event))
     }
 
     // Takes the first line.

@@ -20,58 +20,6 @@ fn comments_and_empty_lines_say_nothing(rt: HostRuntime) -> Result<(), Fail> {
     )
 }
 
-// A text; how many lines its head has, on which lines its events are, and on which line it cannot be read, if on one.
-const ENDS: [(&str, usize, &[u64], Option<u64>); 22] = [
-    ("", 0, &[], None),
-    ("\n", 0, &[], None),
-    ("\r", 0, &[], None),
-    ("# mark 0", 0, &[], None),
-    ("brake 3", 1, &[], None),
-    ("mark 0", 0, &[0], None),
-    ("mark 0\r", 0, &[0], None),
-    ("mark 0 \r\nmark 1\r\n", 0, &[0, 1], None),
-    ("mark 0\rmark 1", 0, &[], Some(0)),
-    ("\r\n\n\rmark 0\n", 0, &[], Some(2)),
-    ("\nmark 0\u{b}mark 1\n", 0, &[], Some(1)),
-    ("mark 0\u{2028}mark 1\n", 0, &[], Some(0)),
-    ("\u{feff}mark 0\n", 0, &[], Some(0)),
-    ("mark 0\nmark 1 # so\nmark 2\n", 0, &[0], Some(1)),
-    ("mark 0\n\nMark 1", 0, &[0], Some(2)),
-    // what may come once comes twice, or after the head has ended
-    ("brake 3\n\nbrake 3\nmark 0\n", 1, &[], Some(2)),
-    ("blur 1\nbrake 3\nblur 2\n", 2, &[], Some(2)),
-    ("controllers 1\ncontrollers 2\n", 1, &[], Some(1)),
-    ("brake 3\nmark 0\nblur 1\nmark 1\n", 1, &[1], Some(2)),
-    ("mark 0\ntrain 1 1 1 1 1\n", 0, &[0], Some(1)),
-    ("brake 3\nblurr 1\nmark 0\n", 1, &[], Some(1)),
-    (
-        "train 9 9 9 9 1\nbrake 0\ntrain 9 9 9 9 1\nblur 101\n",
-        4,
-        &[],
-        None,
-    ),
-];
-
-#[test]
-fn reading_stops_at_the_end_or_at_an_unreadable_line(rt: HostRuntime) -> Result<(), Fail> {
-    for (text, head, lines, unreadable) in ENDS {
-        let scenario = read(rt.alloc(), text)?;
-        let stop = match unreadable {
-            None => Stop::End,
-            Some(line) => Stop::Unreadable { line },
-        };
-        let read = (
-            scenario.head.len(),
-            scenario.events.len(),
-            scenario.lines.as_slice(),
-            scenario.stop,
-        );
-        assert_eq!(&rt; read, (head, lines.len(), lines, stop), "{text}");
-    }
-    Ok(())
-}
-
-// Three events at a time, and from the end on none.
 #[test]
 fn events_come_piece_by_piece(rt: HostRuntime) -> Result<(), Fail> {
     let mut reader = Reader::new(TEXT);

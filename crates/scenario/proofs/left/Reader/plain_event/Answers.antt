@@ -1,0 +1,10 @@
+use Rattle.std.proofs.Common.{◌∙◌}
+use Rattle.std.proofs.lemmas.List.{take_rest}
+use Rattle.scenario.proofs.Plain.{plain_read}
+use Rattle.scenario.proofs.left.Reader.plain_event.Goals as goal
+
+pub returns-clause-some : goal.returns-clause-some
+returns-clause-some c =
+    plain_read c.args.self.now.line c.saturating_sub-read.result c.args.self.now.rest.now c.in_ok-event.rest.now c.in_ok-rest.rest.now c.in_ok-event.event
+    c.in_ok-event.ensures.fits (rw c.as_bytes.ensures.value at c.in_ok-event.ensures.written) c.saturating_sub-read.ensures
+    (c.in_ok-rest.ensures.cases.0 ∙ take_rest c.args.self.now.rest.now c.saturating_sub-read.result)
