@@ -40,3 +40,31 @@ install_package() {
     "${as_root[@]}" apt-get update >&2 && "${as_root[@]}" apt-get install -y "$2" >&2 ||
         give_up "Debian's package '$2' could not be installed"
 }
+
+# build_bench ROOT: proves what has changed and builds ROOT/crates/bench/out/bench. A binary of an earlier proof stays where
+# it was: nothing may run unless this proof went through. The run with --help is only there to have it built.
+build_bench() {
+    need grep grep
+    say "proving and building what has changed of the bench (the first time: about six minutes)"
+    local log
+    log=$(mktemp)
+    if ! (cd "$1/crates/bench" && rt run -- --help) 2>&1 </dev/null | tee "$log" | { grep --line-buffered '^checked ' || true; } >&2; then
+        cat "$log" >&2
+        give_up "not proved, so nothing is run: the lines above say what is missing"
+    fi
+    rm -f "$log"
+}
+
+# build_reference ROOT: builds ROOT/reference/target/release/reference, the second implementation.
+build_reference() {
+    need rustc rustc
+    need cargo cargo
+    say "building the second implementation (reference/)"
+    local log
+    log=$(mktemp)
+    if ! (cd "$1/reference" && cargo build --release --offline) >"$log" 2>&1 </dev/null; then
+        cat "$log" >&2
+        give_up "the second implementation could not be built: the lines above say why"
+    fi
+    rm -f "$log"
+}

@@ -107,7 +107,7 @@ none_read text rest lines (e ∷ events) none read = absurd (grind (arith, none)
 
 -- where a piece has no event, nothing more is said
 pub no_event_left : (text rest : List Said) (lines : List ℕ) (events : List Event) (stop : Option Stop) → length events ≡ 0 → EventsRead text lines events rest →
-    Stopped stop 4096 events rest → IfSome stop (λ s. s ≡ End) → text ≡ []
+    Stopped stop 512 events rest → IfSome stop (λ s. s ≡ End) → text ≡ []
 no_event_left text rest lines events None none read stopped end = absurd (grind (arith, none, stopped))
 no_event_left text rest lines events (Some stop) none read stopped end = none_read text rest lines events none read ∙ (rw end at stopped.1)
 

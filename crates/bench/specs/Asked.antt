@@ -1,6 +1,7 @@
 -- What the words of a command line ask for. Assumes nothing: these are definitions.
-use Rattle.std.specs.Prelude.{◌≡◌, ℕ, Bool, true, false, ◌==◌, ◌&&◌, List, [], ◌∷◌, ◌++◌, length, map, codes, nat_lt, slice_index, if◌then◌else◌, Ok, Err, Result}
+use Rattle.std.specs.Prelude.{◌≡◌, ℕ, Bool, true, false, ◌==◌, ◌&&◌, ◌||◌, List, [], ◌∷◌, ◌++◌, length, map, codes, nat_lt, slice_index, if◌then◌else◌, Ok, Err, Result}
 use Rattle.std.specs.Str.{bytes_eq}
+use Rattle.bench.specs.AskedDays.{AskedDays, AnswersDays, asked_days, days}
 use Rattle.bench.specs.declared.arguments.Arguments.{Arguments}
 use Rattle.bench.specs.declared.arguments.Request.{Request}
 use Rattle.bench.specs.declared.arguments.Request.TheVariants as requests
@@ -19,7 +20,9 @@ pub data Asked : Type 0 where
   help : Asked
   version : Asked
   unknown : (option : List ℕ) → Asked
+  random_first : (option : List ℕ) → Asked
   play : Playing → Asked
+  random : AskedDays → Asked
 
 -- a word that looks like an option: a minus and more
 abbrev pub is_option : List ℕ → Bool
@@ -33,8 +36,10 @@ meaning_of word =
     else (if bytes_eq word (codes "--quiet") then meanings.Quiet
     else (if bytes_eq word (codes "--check") then meanings.Check
     else (if bytes_eq word (codes "--") then meanings.FilesFollow
+    else (if bytes_eq word (codes "--random") || (bytes_eq word (codes "--days") || (bytes_eq word (codes "--events") ||
+    (bytes_eq word (codes "--trains") || (bytes_eq word (codes "--controllers") || bytes_eq word (codes "--write"))))) then meanings.AfterRandom
     else (if is_option word then meanings.Unknown
-    else meanings.File)))))
+    else meanings.File))))))
 
 -- with no file, standard input, named by a minus
 abbrev pub with_input : List (List ℕ) → List (List ℕ)
@@ -51,6 +56,7 @@ by_meaning meanings.Version word quiet check files_follow file = version
 by_meaning meanings.Quiet word quiet check files_follow file = quiet
 by_meaning meanings.Check word quiet check files_follow file = check
 by_meaning meanings.FilesFollow word quiet check files_follow file = files_follow
+by_meaning meanings.AfterRandom word quiet check files_follow file = random_first word
 by_meaning meanings.Unknown word quiet check files_follow file = unknown word
 by_meaning meanings.File word quiet check files_follow file = file
 
@@ -62,8 +68,13 @@ asked_after true p (word ∷ words) =
     by_meaning (meaning_of word) word (asked_after true (record p { quiet = true }) words) (asked_after true (record p { check = true }) words)
     (asked_after false p words) (asked_after false (with_file p word) words)
 
+abbrev pub asked_files : List (List ℕ) → Asked
+asked_files = asked_after true (record { quiet = false; check = false; files = [] })
+
+-- where --random comes first, random days are asked for
 abbrev pub asked : List (List ℕ) → Asked
-asked = asked_after true (record { quiet = false; check = false; files = [] })
+asked [] = asked_files []
+asked (word ∷ words) = if bytes_eq word (codes "--random") then random (asked_days words) else asked_files (word ∷ words)
 
 -- the answer is what is asked for, unless memory is wanting
 abbrev pub view : Arguments → Playing
@@ -73,5 +84,8 @@ abbrev pub Answers : Result Request ArgumentError → Asked → Type 0
 Answers (Ok requests.Help) a = a ≡ help
 Answers (Ok requests.Version) a = a ≡ version
 Answers (Ok (requests.Play arguments)) a = a ≡ play (view arguments)
+Answers (Ok (requests.Random asked)) a = a ≡ random (days asked)
 Answers (Err (errors.Unknown option)) a = a ≡ unknown option.now
+Answers (Err (errors.RandomFirst option)) a = a ≡ random_first option.now
+Answers (Err (errors.Days error)) a = (what : AskedDays) × (a ≡ random what) × AnswersDays (Err error) what
 Answers (Err errors.NoMemory) a = Unit {0}

@@ -1,2 +1,4 @@
 pub mod Asked
 pub mod Played
+pub mod Ticks
+pub mod AskedDays

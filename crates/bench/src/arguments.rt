@@ -1,8 +1,10 @@
 // What the program is asked to do.
-ghost use Rattle.bench.specs.Asked.{Answers, asked, is_option, meaning_of, view, with_file};
+ghost use Rattle.bench.specs.Asked.{Answers, asked, asked_files, is_option, meaning_of, random, view, with_file};
+ghost use Rattle.bench.specs.AskedDays.{asked_days};
 ghost use Rattle.bench.specs.declared.arguments.ArgumentError.TheVariants.{NoMemory};
-ghost use Rattle.std.specs.Prelude.{◌≡◌, IfErr, OnOk, map, string_bytes};
+ghost use Rattle.std.specs.Prelude.{◌≡◌, IfErr, IfNone, IfSome, OnOk, map, string_bytes};
 
+use crate::asked_days::{DaysError, RandomDays, read_days};
 use std::alloc::Global;
 use std::fmt;
 
@@ -19,11 +21,15 @@ pub enum Request<'a> {
     Help,
     Version,
     Play(Arguments<'a>),
+    Random(RandomDays),
 }
 
 #[derive(Debug, Drop)]
 pub enum ArgumentError<'a> {
     Unknown(&'a str),
+    // it goes with --random, which comes first
+    RandomFirst(&'a str),
+    Days(DaysError<'a>),
     NoMemory,
 }
 
@@ -36,17 +42,48 @@ impl<'a> fmt::Display for ArgumentError<'a> {
                     "there is no option '{option}': bench --help tells those that there are"
                 )
             }
+            ArgumentError::RandomFirst(option) => write!(
+                f,
+                "'{option}' stands where --random SEED does not come first: bench --help tells more"
+            ),
+            ArgumentError::Days(error) => write!(f, "{error}"),
             ArgumentError::NoMemory => f.write_str("there is not enough memory"),
         }
     }
 }
 
-// Options come before the files; after `--` all are files.
+// Where `--random` comes first, random days are asked for, and else files to be played.
 pub fn read_arguments<'a>(
     alloc: Global,
     given: &'a [String],
 ) -> Result<Request<'a>, ArgumentError<'a>>
     ensures { Answers result (asked (map string_bytes given.now)) }
+{
+    match after_random(given) {
+        Some(words) => match read_days(words) {
+            Ok(days) => Ok(Request::Random(days)),
+            Err(error) => Err(ArgumentError::Days(error)),
+        },
+        None => read_files(alloc, given),
+    }
+}
+
+// The words after `--random`, if that is the first.
+fn after_random(given: &[String]) -> Option<&[String]>
+    ensures some { IfSome result (λ words. asked (map string_bytes given.now) ≡ random (asked_days (map string_bytes words.now))) }
+    ensures none { IfNone result (asked (map string_bytes given.now) ≡ asked_files (map string_bytes given.now)) }
+{
+    let (first, rest) = given.split_first()?;
+    if first.as_str() == "--random" {
+        Some(rest)
+    } else {
+        None
+    }
+}
+
+// Options come before the files; after `--` all are files.
+fn read_files<'a>(alloc: Global, given: &'a [String]) -> Result<Request<'a>, ArgumentError<'a>>
+    ensures { Answers result (asked_files (map string_bytes given.now)) }
 {
     let mut arguments = Arguments {
         quiet: false,
@@ -66,6 +103,7 @@ pub fn read_arguments<'a>(
             Meaning::Quiet => arguments.quiet = true,
             Meaning::Check => arguments.check = true,
             Meaning::FilesFollow => options = false,
+            Meaning::AfterRandom => return Err(ArgumentError::RandomFirst(word)),
             Meaning::Unknown => return Err(ArgumentError::Unknown(word)),
             Meaning::File => {
                 options = false;
@@ -98,6 +136,7 @@ enum Meaning {
     Quiet,
     Check,
     FilesFollow,
+    AfterRandom,
     Unknown,
     File,
 }
@@ -113,6 +152,9 @@ impl Meaning {
             "--quiet" => Meaning::Quiet,
             "--check" => Meaning::Check,
             "--" => Meaning::FilesFollow,
+            "--random" | "--days" | "--events" | "--trains" | "--controllers" | "--write" => {
+                Meaning::AfterRandom
+            }
             _ if is_option(word) => Meaning::Unknown,
             _ => Meaning::File,
         }

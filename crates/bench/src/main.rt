@@ -2,20 +2,25 @@
 #![tactic(auto)]
 
 mod arguments;
+mod asked_days;
 mod play;
 mod progress;
+mod random_days;
 mod refusal;
 mod text;
+mod ticks;
 
 use arguments::{Arguments, Request, read_arguments};
 use play::{PlayError, play};
 use progress::Progress;
+use random_days::{play_days, write_day};
 use std::io::{self, BufWriter, Write};
 use std::process::ExitCode;
 use std::{env, fmt};
 use text::read_text;
 
 const USAGE: &str = "usage: bench [--quiet] [--check] [FILE]...
+       bench --random SEED [--days N] [--events N] [--trains N] [--controllers N] [--quiet] [--write]
 
 Plays scenarios: each FILE says how a day begins on a line of trains, and what happens, one event a line.
 '-', or no FILE at all, is standard input.
@@ -34,6 +39,15 @@ Options come before the files; after '--' all are files.
   --check    says of each file in one line whether it is taken or how it is refused, and goes on
   --help     prints this
   --version  prints the version
+
+bench --random plays random days from a number on, the same ones for the same numbers, and tells of each in a line
+how large it is and what gaps there were, and at the end of all. Old and repeated messages are frequent.
+  --days N         so many days, for SEED and the numbers after it (1 if not given)
+  --events N       so many events in each (400)
+  --trains N       so many trains at most (5; up to 64)
+  --controllers N  so many controllers at most (2; up to 8)
+  --quiet          tells of all days together alone
+  --write          prints the scenario of the day, and does not play it
 
 The status is 0, or 1 where a file is refused or cannot be read, or 2 where an argument is wrong.";
 
@@ -122,6 +136,8 @@ fn run(rt: &HostRuntime) -> io::Result<ExitCode> {
         Ok(Request::Help) => println!(rt; "{USAGE}")?,
         Ok(Request::Version) => println!(rt; "{VERSION}")?,
         Ok(Request::Play(arguments)) => return play_files(rt, &arguments),
+        Ok(Request::Random(days)) if days.write => return write_day(rt, days),
+        Ok(Request::Random(days)) => return play_days(rt, days),
         Err(error) => {
             eprintln!(rt; "bench: {error}")?;
             return Ok(ExitCode::from(2));

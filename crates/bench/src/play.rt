@@ -10,6 +10,7 @@ ghost use Rattle.std.specs.Prelude.{◌≡◌, ◌<◌, ℕ, List, [], None, IfN
 
 use crate::progress::Progress;
 use crate::refusal::{Reason, Refused};
+use crate::ticks::write_ticks;
 use braking::Refusal;
 use braking::limits::PLACE_MAX;
 use line::{Gaps, Line, NewError, Seen, Standing, StepError};
@@ -19,7 +20,7 @@ use std::io::{self, Write};
 
 // So many events are read and then run at once, so that a long scenario needs no more memory than its text and the
 // messages that were sent.
-const PIECE: usize = 4096;
+const PIECE: usize = 512;
 
 #[derive(Drop)]
 pub enum PlayError<'a> {
@@ -56,6 +57,7 @@ pub fn play<'a, W: Write>(
     let head = reader.head(alloc)?;
     let mut line = new_line(alloc, &head)?;
     let mut seen = Vec::with_capacity(alloc, PIECE)?;
+    let mut ticks = Vec::new(alloc);
     let mut gaps = Gaps {
         count: 0,
         smallest: None,
@@ -63,7 +65,9 @@ pub fn play<'a, W: Write>(
     loop {
         let played = play_piece(alloc, &mut reader, &mut line, &mut seen, gaps);
         if shown {
-            write_ticks(out, &seen)?;
+            ticks.clear();
+            write_ticks(&mut ticks, &seen)?;
+            out.write_all(&ticks)?;
         }
         let Some(more) = played? else {
             return Ok(gaps);
@@ -111,14 +115,6 @@ fn no_more<'a>(reader: Reader<'a>, stop: Option<Stop>) -> Result<Option<Gaps>, P
         Some(Stop::Unreadable { line }) => Err(unreadable(reader, line)),
         _ => Ok(None),
     }
-}
-
-// A line of text for each tick.
-fn write_ticks<W: Write>(out: &mut W, seen: &[Seen]) -> io::Result<()> {
-    for tick in seen {
-        writeln!(out, "{tick}")?;
-    }
-    Ok(())
 }
 
 // A line as the head gives it, or why no day can begin so.

@@ -5,8 +5,8 @@ use Rattle.bench.specs.Played.{PlayedTo}
 use Rattle.bench.proofs.play.play.Given as goal
 
 -- the text was played up to what is left of it
-abbrev pub invariant-loop-out : goal.invariant-loop-out
-invariant-loop-out g l = PlayedTo l.text l.head.items (left l.reader) (state l.line.parts) l.gaps
+abbrev pub invariant-loop-ticks : goal.invariant-loop-ticks
+invariant-loop-ticks g l = PlayedTo l.text l.head.items (left l.reader) (state l.line.parts) l.gaps
 
-abbrev pub decreases-loop-out : goal.decreases-loop-out
-decreases-loop-out g l = length (left l.reader)
+abbrev pub decreases-loop-ticks : goal.decreases-loop-ticks
+decreases-loop-ticks g l = length (left l.reader)

@@ -1,7 +1,0 @@
-use Rattle.std.proofs.Common.{◌≡◌, drop, map, string_bytes}
-use Rattle.bench.specs.Asked.{asked, asked_after, view}
-use Rattle.bench.proofs.arguments.read_arguments.Given as goal
-
--- what the words so far and those that are left ask for is what all ask for
-abbrev pub invariant-loop-word : goal.invariant-loop-word
-invariant-loop-word l = asked_after l.options (view l.arguments) (map string_bytes (drop l.word-index l.given)) ≡ asked (map string_bytes l.given)

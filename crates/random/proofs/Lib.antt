@@ -1,0 +1,4 @@
+pub mod Nothing
+pub mod Trains
+pub mod Heads
+pub mod More
