@@ -16,12 +16,12 @@ bit_mul x y hx hy = absurd (omega arith)
 after_bit_xor : (a b : ℕ) → after_bit (bit_xor a b) ≡ bit_xor (after_bit a) (after_bit b)
 after_bit_xor a b = grind (arith, xor_shr a b 1, xor_mod a b 1, bit_mul (a % 2) (b % 2), xor_assoc, xor_comm)
 
-bits_xor : (n a b : ℕ) → after_bits n (bit_xor a b) ≡ bit_xor (after_bits n a) (after_bits n b)
+pub bits_xor : (n a b : ℕ) → after_bits n (bit_xor a b) ≡ bit_xor (after_bits n a) (after_bits n b)
 bits_xor zero a b = refl
 bits_xor (suc n) a b = rw after_bit_xor (bits_xor n (after_bit a) (after_bit b))
 
 -- bits that are 0 only move the register down
-bits_shift : (n a : ℕ) → after_bits n (a * 2 ^ n) ≡ a
+pub bits_shift : (n a : ℕ) → after_bits n (a * 2 ^ n) ≡ a
 bits_shift zero a = omega arith
 bits_shift (suc n) a = rw (shifted_half, shifted_even, xor_zero_r) (bits_shift n a)
 

@@ -2,6 +2,7 @@
 #![tactic(auto)]
 
 pub mod check;
+mod later_tables;
 pub mod laws;
 mod table;
 
