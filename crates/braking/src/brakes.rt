@@ -29,8 +29,8 @@ impl Brakes {
     }
 
     // The braking distance from `speed`: how far the front may still come after this tick, blur included.
-    // A loop and no chain of iterators: so it was asked for, and each turn is a tick of braking. The blur of all ticks
-    // is added at once, so that a turn is as short as can be.
+    // A loop and no chain of iterators: so it was asked for, and each turn is a tick of braking. It adds up the speeds
+    // before the ticks, of which each leaves the brake less, and counts them: a turn is then as short as can be.
     pub fn braking_distance(self, speed: u64) -> Result<u64, Refusal>
         ensures value { result ≡ distance_checked self speed }
         ensures bound { IfOk result (λ d. d ≤ distance_max) }
@@ -38,13 +38,13 @@ impl Brakes {
         self.check()?;
         check_speed(speed)?;
         let mut left = speed;
-        let mut distance = 0;
+        let mut before = 0;
         let mut ticks = 0;
         while left > self.brake {
+            before += left;
             left -= self.brake;
-            distance += left;
             ticks += 1;
         }
-        Ok(distance + ticks * self.blur)
+        Ok(before - ticks * self.brake + ticks * self.blur)
     }
 }
