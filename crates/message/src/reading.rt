@@ -31,10 +31,11 @@ fn received(bytes: &[u8]) -> Result<Message, Refusal>
     )?;
     let train = u64::from(train);
     let place = u64::from(u32::from_le_bytes([p0, p1, p2, p3]));
-    let message = match kind {
-        REPORT => Message::Report { train, place },
-        GRANT => Message::Grant { train, place },
-        _ => return Err(Refusal::FirstByte),
+    check(kind == REPORT || kind == GRANT, Refusal::FirstByte)?;
+    let message = if kind == REPORT {
+        Message::Report { train, place }
+    } else {
+        Message::Grant { train, place }
     };
     check(third == 0, Refusal::ThirdByte)?;
     check(fourth == 0, Refusal::FourthByte)?;
