@@ -16,14 +16,14 @@ fn main() {
         .arg("rcs")
         .arg(out.join("libzlib_check.a"))
         .arg(&object));
-    println!("cargo::rustc-link-search=native={}", out.display());
-    println!("cargo::rustc-link-search=native={}", made.display());
-    println!("cargo::rustc-link-lib=static=message_c");
-    println!("cargo::rustc-link-lib=static=zlib_check");
-    println!("cargo::rustc-link-lib=z");
-    println!("cargo::rerun-if-changed=src/zlib_check.c");
+    println!("cargo:rustc-link-search=native={}", out.display());
+    println!("cargo:rustc-link-search=native={}", made.display());
+    println!("cargo:rustc-link-lib=static=message_c");
+    println!("cargo:rustc-link-lib=static=zlib_check");
+    println!("cargo:rustc-link-lib=z");
+    println!("cargo:rerun-if-changed=src/zlib_check.c");
     println!(
-        "cargo::rerun-if-changed={}",
+        "cargo:rerun-if-changed={}",
         made.join("libmessage_c.a").display()
     );
 }

@@ -1,7 +1,7 @@
 //! Holds the three against one another on many messages, valid and damaged, before anything is measured.
 
-use crate::answers::{Asked, LENGTH, ReadMessage, WrittenMessage};
-use crate::messages::{Chance, any, bytes_of, damage, possible};
+use crate::answers::{Asked, ReadMessage, WrittenMessage, LENGTH};
+use crate::messages::{any, bytes_of, damage, possible, Chance};
 use crate::{by_rattle, by_rust, by_zlib};
 
 /// How many messages are tried in each of six ways.

@@ -2,7 +2,7 @@
 
 use crate::answers::{Asked, ReadMessage, WrittenMessage};
 
-unsafe extern "C" {
+extern "C" {
     fn message_read(bytes: *const u8, length: usize, answer: *mut ReadMessage);
     fn message_write(kind: u64, train: u64, place: u64, answer: *mut WrittenMessage);
 }

@@ -1,9 +1,10 @@
 //! The check of a message alone, by zlib called from C (src/zlib_check.c).
 
 use crate::answers::LENGTH;
-use std::ffi::{CStr, c_char};
+use std::ffi::CStr;
+use std::os::raw::c_char;
 
-unsafe extern "C" {
+extern "C" {
     fn zlib_check_is_right(bytes: *const u8) -> u64;
     fn zlib_put_check(bytes: *mut u8);
     #[link_name = "zlibVersion"]

@@ -15,9 +15,12 @@ use std::process::ExitCode;
 use timing::Prepared;
 
 fn main() -> ExitCode {
-    let Some(runs) = std::env::args().nth(1).and_then(|runs| runs.parse().ok()) else {
-        eprintln!("usage: message-speed RUNS");
-        return ExitCode::from(2);
+    let runs = match std::env::args().nth(1).and_then(|runs| runs.parse().ok()) {
+        Some(runs) => runs,
+        None => {
+            eprintln!("usage: message-speed RUNS");
+            return ExitCode::from(2);
+        }
     };
     match agreement::tried() {
         Ok(tried) => println!("agreed\t{tried}"),

@@ -1,9 +1,9 @@
 //! The processor time of reading and of writing messages that were prepared before, in nanoseconds a message.
 
-use crate::answers::{Asked, LENGTH, ReadMessage, WrittenMessage};
-use crate::messages::{Chance, bytes_of, possible};
+use crate::answers::{Asked, ReadMessage, WrittenMessage, LENGTH};
+use crate::messages::{bytes_of, possible, Chance};
 use crate::{by_rattle, by_rust, by_zlib};
-use std::hint::black_box;
+use std::arch::asm;
 
 /// How many messages are prepared, so few that the processor's fastest memory has them, and how often each is gone over.
 const PREPARED: usize = 1_000;
@@ -78,13 +78,22 @@ fn each<T>(prepared: &mut [T], mut work: impl FnMut(&mut T)) -> f64 {
     (processor_nanoseconds() - begun) / (prepared.len() * TIMES) as f64
 }
 
+/// Hands a value back as if anything could have been done to it and to what it points to, so that the compiler leaves out
+/// nothing of what made it or of what is done with it. `std::hint` has the same since Rust 1.66 only.
+#[inline(always)]
+fn black_box<T>(mut value: T) -> T {
+    // SAFETY: the code is a comment alone, so nothing is done.
+    unsafe { asm!("/* {0} */", in(reg) &mut value as *mut T, options(nostack, preserves_flags)) };
+    value
+}
+
 #[repr(C)]
 struct Timespec {
     seconds: i64,
     nanoseconds: i64,
 }
 
-unsafe extern "C" {
+extern "C" {
     fn clock_gettime(clock: i32, time: *mut Timespec) -> i32;
 }
 
