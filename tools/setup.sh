@@ -59,12 +59,18 @@ build_bench() {
 build_reference() {
     need rustc rustc
     need cargo cargo
-    say "building the second implementation (reference/)"
-    local log
+    build "the second implementation (reference/)" "$1/reference" cargo build --release --offline
+}
+
+# build WHAT FOLDER COMMAND...: what the command says is shown only where it fails.
+build() {
+    local what=$1 folder=$2 log
+    shift 2
+    say "building $what"
     log=$(mktemp)
-    if ! (cd "$1/reference" && cargo build --release --offline) >"$log" 2>&1 </dev/null; then
+    if ! (cd "$folder" && "$@") >"$log" 2>&1 </dev/null; then
         cat "$log" >&2
-        give_up "the second implementation could not be built: the lines above say why"
+        give_up "$what could not be built: the lines above say why"
     fi
     rm -f "$log"
 }
