@@ -22,7 +22,7 @@ MESSAGES = TOP / "tools/message-speed/target/release/message-speed"
 FILES = [
     ("ordinary", 1_000_000, "8 trains, all kinds of events, half of them ticks"),
     ("many-trains", 1_000_000, "the same with 64 trains"),
-    ("brake-1", 200_000, "4 trains, brake 1, wishes from 9,000 to 10,000"),
+    ("brake-1", 1_000_000, "4 trains, brake 1, wishes from 9,000 to 10,000"),
     ("radio", 1_000_000, "8 trains, messages only, many of them old or come twice"),
 ]
 GROWING = [10_000, 100_000, 1_000_000]

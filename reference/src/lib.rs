@@ -1,4 +1,4 @@
-//! A second implementation of `bench`, written from FORMATS.md alone.
+//! A second implementation of `bench`, written from docs/FORMATS.md.
 
 pub mod arguments;
 pub mod bench;

@@ -76,10 +76,11 @@ abbrev pub asked : List (List ℕ) → Asked
 asked [] = asked_files []
 asked (word ∷ words) = if bytes_eq word (codes "--random") then random (asked_days words) else asked_files (word ∷ words)
 
--- the answer is what is asked for, unless memory is wanting
+-- what the program's own arguments say
 abbrev pub view : Arguments → Playing
 view a = record { quiet = a.quiet; check = a.check; files = map (λ file. file.now) a.files.items }
 
+-- the answer is what is asked for, unless memory is wanting
 abbrev pub Answers : Result Request ArgumentError → Asked → Type 0
 Answers (Ok requests.Help) a = a ≡ help
 Answers (Ok requests.Version) a = a ≡ version

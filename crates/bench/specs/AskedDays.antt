@@ -1,8 +1,8 @@
 -- What the words after --random ask for. Assumes nothing: these are definitions.
-use Rattle.std.specs.Prelude.{◌≡◌, ℕ, ◌-◌, ◌^◌, true, false, ◌&&◌, List, [], ◌∷◌, codes, decimal, nat_le, if◌then◌else◌, Some, None, Option, Ok, Err, Result}
+use Rattle.std.specs.Prelude.{◌≡◌, ℕ, ◌-◌, ◌^◌, true, false, ◌&&◌, ◌==◌, not, List, [], ◌∷◌, codes, decimal, nat_le, if◌then◌else◌, Some, None, Option, Ok, Err, Result}
 use Rattle.std.specs.Str.{bytes_eq}
 use Rattle.std.specs.Str.Parse.{digits_value}
-use Rattle.std.specs.Option.{is_some, unwrap_or}
+use Rattle.std.specs.Option.{unwrap_or}
 use Rattle.braking.specs.Limits.{trains_max, controllers_max}
 use Rattle.bench.specs.declared.asked_days.Setting.{Setting}
 use Rattle.bench.specs.declared.asked_days.Setting.TheVariants.{Seed, Days, Events, Trains, Controllers}
@@ -44,7 +44,7 @@ choice_of word =
     else choices.Unknown)))))
 
 abbrev pub with_number : GivenDays → Setting → ℕ → GivenDays
-with_number g Seed n = record g { seed = Some n }
+with_number g Seed n = record g { seed = n }
 with_number g Days n = record g { days = Some n }
 with_number g Events n = record g { events = Some n }
 with_number g Trains n = record g { trains = Some n }
@@ -53,16 +53,16 @@ with_number g Controllers n = record g { controllers = Some n }
 -- where no word follows: what was not given is one day of 400 events, with at most five trains and two controllers
 abbrev pub after_words : GivenDays → AskedDays
 after_words g =
-    if g.write && is_some g.days then write_one_day
+    if g.write && not (unwrap_or g.days 1 == 1) then write_one_day
     else days (record {
-      seed = unwrap_or g.seed 0;
+      seed = g.seed;
       days = unwrap_or g.days 1;
       extent = record { trains = unwrap_or g.trains 5; controllers = unwrap_or g.controllers 2; events = unwrap_or g.events 400 };
       quiet = g.quiet;
       write = g.write;
     })
 
--- word after word; `wanted` is the setting whose number comes next
+-- what is asked for by a number, if a word writes one, and by a choice
 abbrev pub by_number : Option ℕ → (otherwise : AskedDays) → (ℕ → AskedDays) → AskedDays
 by_number None otherwise next = otherwise
 by_number (Some n) otherwise next = next n
@@ -73,6 +73,7 @@ by_choice choices.Write word quiet write number = write
 by_choice (choices.Number setting) word quiet write number = number setting
 by_choice choices.Unknown word quiet write number = unknown word
 
+-- word after word; `wanted` is the setting whose number comes next
 abbrev pub asked_from : (wanted : Option Setting) → GivenDays → List (List ℕ) → AskedDays
 asked_from None g [] = after_words g
 asked_from (Some setting) g [] = no_number setting
@@ -82,9 +83,9 @@ asked_from None g (word ∷ words) =
     by_choice (choice_of word) word (asked_from None (record g { quiet = true }) words) (asked_from None (record g { write = true }) words)
     (λ setting. asked_from (Some setting) g words)
 
--- first comes the number of --random itself, the seed
+-- first comes the number of --random itself, the seed; until then it stands as 0
 abbrev pub asked_days : List (List ℕ) → AskedDays
-asked_days = asked_from (Some Seed) (record { quiet = false; write = false; seed = None; days = None; events = None; trains = None; controllers = None })
+asked_days = asked_from (Some Seed) (record { quiet = false; write = false; seed = 0; days = None; events = None; trains = None; controllers = None })
 
 -- the answer is what is asked for
 abbrev pub AnswersDays : Result RandomDays DaysError → AskedDays → Type 0

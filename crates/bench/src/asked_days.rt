@@ -44,7 +44,7 @@ pub enum DaysError<'a> {
 pub struct GivenDays {
     pub quiet: bool,
     pub write: bool,
-    pub seed: Option<u64>,
+    pub seed: u64,
     pub days: Option<u64>,
     pub events: Option<u64>,
     pub trains: Option<u64>,
@@ -66,7 +66,7 @@ pub fn read_days<'a>(words: &'a [String]) -> Result<RandomDays, DaysError<'a>>
     let mut given = GivenDays {
         quiet: false,
         write: false,
-        seed: None,
+        seed: 0,
         days: None,
         events: None,
         trains: None,
@@ -98,12 +98,10 @@ impl GivenDays {
     fn with_number(self, setting: Setting, number: u64) -> GivenDays
         ensures { result ≡ with_number self setting number }
     {
+        let seed = number;
         let number = Some(number);
         match setting {
-            Setting::Seed => GivenDays {
-                seed: number,
-                ..self
-            },
+            Setting::Seed => GivenDays { seed, ..self },
             Setting::Days => GivenDays {
                 days: number,
                 ..self
@@ -127,12 +125,13 @@ impl GivenDays {
     fn asked<'a>(self) -> Result<RandomDays, DaysError<'a>>
         ensures { AnswersDays result (after_words self) }
     {
-        if self.write && self.days.is_some() {
+        let days = self.days.unwrap_or(1);
+        if self.write && days != 1 {
             return Err(DaysError::WriteOneDay);
         }
         Ok(RandomDays {
-            seed: self.seed.unwrap_or(0),
-            days: self.days.unwrap_or(1),
+            seed: self.seed,
+            days,
             extent: Extent {
                 trains: self.trains.unwrap_or(5),
                 controllers: self.controllers.unwrap_or(2),

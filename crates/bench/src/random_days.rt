@@ -5,7 +5,7 @@ ghost use Rattle.scenario.specs.Written.{scenario_text};
 ghost use Rattle.std.specs.Prelude.{◌≡◌, ◌++◌, IfOk, string_bytes};
 
 use crate::asked_days::RandomDays;
-use crate::play::play;
+use crate::play::{PlayError, play};
 use crate::progress::Progress;
 use line::Gaps;
 use random::{Day, Extent, random_day};
@@ -33,7 +33,9 @@ fn written_day(alloc: Global, seed: u64, extent: Extent) -> Result<Written, Allo
 
 // Prints the scenario of the first day.
 pub fn write_day(rt: &HostRuntime, asked: RandomDays) -> io::Result<ExitCode> {
-    let written = written_day(rt.alloc(), asked.seed, asked.extent)?;
+    let Ok(written) = written_day(rt.alloc(), asked.seed, asked.extent) else {
+        return no_memory(rt, asked.seed);
+    };
     let mut out = BufWriter::with_capacity(rt.alloc(), 1 << 16, io::writer(rt))?;
     out.write_all(written.text.as_bytes())?;
     out.flush()?;
@@ -50,41 +52,63 @@ pub fn play_days(rt: &HostRuntime, asked: RandomDays) -> io::Result<ExitCode> {
         smallest: None,
     };
     for day in 0..asked.days {
+        progress.tell("random days", day as usize, asked.days as usize)?;
         let seed = asked.seed.wrapping_add(day);
-        let written = written_day(rt.alloc(), seed, asked.extent)?;
-        let Some(gaps) = play_day(rt, &written.text, &mut progress)? else {
+        let Ok(written) = written_day(rt.alloc(), seed, asked.extent) else {
+            progress.end()?;
             out.flush()?;
-            eprintln!(rt; "bench: random day {seed} cannot be played: --write prints it")?;
-            return Ok(ExitCode::FAILURE);
+            return no_memory(rt, seed);
         };
-        if !asked.quiet {
-            tell_day(rt.alloc(), &mut out, seed, &written.day, gaps)?;
+        match play_day(rt, &written.text)? {
+            Ok(gaps) => {
+                if !asked.quiet {
+                    tell_day(rt.alloc(), &mut out, seed, &written.day, gaps)?;
+                }
+                events = events.saturating_add(written.day.events.len() as u128);
+                all = all.and(gaps);
+            }
+            Err(error) => {
+                progress.end()?;
+                out.flush()?;
+                return unplayed(rt, seed, error);
+            }
         }
-        events = events.saturating_add(written.day.events.len() as u128);
-        all = all.and(gaps);
     }
+    progress.end()?;
     writeln!(out, "{} days, {events} events: {all}", asked.days)?;
     out.flush()?;
     Ok(ExitCode::SUCCESS)
 }
 
-// The gaps of a day. That it is refused cannot be, or the generator, the writer or the reader is wrong.
-fn play_day(
-    rt: &HostRuntime,
-    text: &String,
-    progress: &mut Progress<'_>,
-) -> io::Result<Option<Gaps>> {
+// The gaps of a day. Nothing is told of its ticks, nor of its progress.
+fn play_day<'a>(rt: &HostRuntime, text: &'a String) -> io::Result<Result<Gaps, PlayError<'a>>> {
     let mut nothing = io::sink();
-    let played = play(
+    let mut silent = Progress::new(rt, true, false)?;
+    Ok(play(
         rt.alloc(),
         text.as_str(),
         &mut nothing,
         false,
-        progress,
-        "random day",
-    );
-    progress.end()?;
-    Ok(played.ok())
+        &mut silent,
+        "",
+    ))
+}
+
+fn no_memory(rt: &HostRuntime, seed: u64) -> io::Result<ExitCode> {
+    eprintln!(rt; "bench: day {seed}: there is not enough memory")?;
+    Ok(ExitCode::FAILURE)
+}
+
+// That a day is refused cannot be, or the generator, the writer or the reader is wrong.
+fn unplayed(rt: &HostRuntime, seed: u64, error: PlayError<'_>) -> io::Result<ExitCode> {
+    match error {
+        PlayError::NoMemory => return no_memory(rt, seed),
+        PlayError::Output(error) => return Err(error),
+        PlayError::Refused(refused) => eprintln!(rt;
+            "bench: day {seed}: {refused}: --write prints it"
+        )?,
+    }
+    Ok(ExitCode::FAILURE)
 }
 
 fn tell_day<W: Write>(

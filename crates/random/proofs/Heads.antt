@@ -12,7 +12,7 @@ use Rattle.scenario.specs.Heads.{train_of, with_brakes, with_controllers}
 use Rattle.scenario.specs.Lines.{HeadFits}
 use Rattle.scenario.specs.Laws.{NoDoubles}
 use Rattle.scenario.specs.Texts.{is_double}
-use Rattle.random.specs.declared.beginning.Extent.{Extent}
+use Rattle.random.specs.declared.day.Extent.{Extent}
 use Rattle.random.specs.Days.{Begins, head_lines}
 use Rattle.random.proofs.Trains.{first_fits}
 

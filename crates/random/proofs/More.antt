@@ -9,7 +9,7 @@ use Rattle.braking.specs.declared.refusal.Refusal.{Refusal}
 use Rattle.line.specs.Initial.{new_line}
 use Rattle.scenario.specs.Heads.{brakes_of, controllers_of, trains_of}
 use Rattle.scenario.specs.Lines.{EventFits}
-use Rattle.random.specs.declared.beginning.Extent.{Extent}
+use Rattle.random.specs.declared.day.Extent.{Extent}
 use Rattle.random.specs.declared.day.Day.{Day}
 use Rattle.random.specs.Days.{Begins, Follow, IsDay}
 

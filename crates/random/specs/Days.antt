@@ -11,7 +11,7 @@ use Rattle.scenario.specs.declared.entry.HeadLine.TheVariants as heads
 use Rattle.scenario.specs.Heads.{brakes_of, controllers_of, trains_of}
 use Rattle.scenario.specs.Lines.{HeadFits, EventFits}
 use Rattle.scenario.specs.Laws.{NoDoubles}
-use Rattle.random.specs.declared.beginning.Extent.{Extent}
+use Rattle.random.specs.declared.day.Extent.{Extent}
 use Rattle.random.specs.declared.day.Day.{Day}
 
 -- the lines of a head

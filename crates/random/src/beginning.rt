@@ -5,18 +5,11 @@ ghost use Rattle.random.specs.Days.{Begins, head_lines};
 ghost use Rattle.std.specs.Prelude.{◌≡◌, ◌≤◌, IfOk, Ok, length, true};
 
 use crate::chance::Chance;
+use crate::day::Extent;
 use braking::limits::{BLUR_MAX, BRAKE_MAX, CONTROLLERS_MAX, PLACE_MAX, TRAINS_MAX};
 use line::Standing;
 use scenario::HeadLine;
 use std::alloc::{AllocError, Global};
-
-// How large a day is: so many trains and controllers at most, and so many events.
-#[derive(Clone, Copy, PartialEq, Eq, Debug)]
-pub struct Extent {
-    pub trains: u64,
-    pub controllers: u64,
-    pub events: u64,
-}
 
 // The lines of a head. A line can be made of them.
 #[tactic(auto, using(crate::proofs::Heads::head_begins))]

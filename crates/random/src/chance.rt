@@ -1,5 +1,7 @@
 // Random numbers that follow from a seed.
-ghost use Rattle.std.specs.Prelude.{◌≤◌};
+ghost use Rattle.rand_xoshiro.specs.SplitMix64.{splitmix_seed};
+ghost use Rattle.rand_xoshiro.specs.Xoshiro256.{of_seed};
+ghost use Rattle.std.specs.Prelude.{◌≡◌, ◌≤◌};
 
 use rand::RngExt;
 use rand_core::SeedableRng;
@@ -11,7 +13,9 @@ pub struct Chance {
 }
 
 impl Chance {
-    pub fn new(seed: u64) -> Chance {
+    pub fn new(seed: u64) -> Chance
+        ensures { result.numbers ≡ of_seed (splitmix_seed 32 seed) }
+    {
         Chance {
             numbers: Xoshiro256PlusPlus::seed_from_u64(seed),
         }

@@ -5,7 +5,7 @@ ghost use Rattle.random.specs.Days.{Follow, IsDay};
 ghost use Rattle.scenario.specs.Heads.{brakes_of, controllers_of, trains_of};
 ghost use Rattle.std.specs.Prelude.{◌≡◌, IfOk, Ok};
 
-use crate::beginning::{Extent, random_beginning};
+use crate::beginning::random_beginning;
 use crate::chance::Chance;
 use crate::kinds::Kinds;
 use crate::next::random_event;
@@ -13,6 +13,14 @@ use line::Line;
 use safety::Event;
 use scenario::{Head, HeadLine};
 use std::alloc::{AllocError, Global};
+
+// How large a day is: so many trains and controllers at most, and so many events.
+#[derive(Clone, Copy, PartialEq, Eq, Debug)]
+pub struct Extent {
+    pub trains: u64,
+    pub controllers: u64,
+    pub events: u64,
+}
 
 // Its scenario.
 #[derive(Drop)]
