@@ -14,6 +14,7 @@ use arguments::{Arguments, Request, read_arguments};
 use play::{PlayError, play};
 use progress::Progress;
 use random_days::{play_days, write_day};
+use refusal::Refused;
 use std::io::{self, BufWriter, Write};
 use std::process::ExitCode;
 use std::{env, fmt};
@@ -79,20 +80,30 @@ fn play_file(rt: &HostRuntime, name: &str, arguments: &Arguments) -> io::Result<
     out.flush()?;
     match played {
         Ok(_) => Ok(true),
-        Err(PlayError::Refused(refused)) => match refused.line {
-            None => tell(rt, arguments, format_args!("{name}: {refused}")),
-            Some(line) => tell(
-                rt,
-                arguments,
-                format_args!("{name}:{}: {refused}", line.saturating_add(1)),
-            ),
-        },
+        Err(PlayError::Refused(refused)) => tell_refused(rt, arguments, name, refused),
         Err(PlayError::NoMemory) => tell(
             rt,
             arguments,
             format_args!("{name}: there is not enough memory"),
         ),
         Err(PlayError::Output(error)) => Err(error),
+    }
+}
+
+// Where the refusal has a line, it is told as editors count lines, from 1.
+fn tell_refused(
+    rt: &HostRuntime,
+    arguments: &Arguments,
+    name: &str,
+    refused: Refused<'_>,
+) -> io::Result<bool> {
+    match refused.line {
+        None => tell(rt, arguments, format_args!("{name}: {refused}")),
+        Some(line) => tell(
+            rt,
+            arguments,
+            format_args!("{name}:{}: {refused}", line.saturating_add(1)),
+        ),
     }
 }
 
