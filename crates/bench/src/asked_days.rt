@@ -215,7 +215,7 @@ impl<'a> fmt::Display for DaysError<'a> {
                 )
             }
             DaysError::WriteOneDay => f.write_str(
-                "--write prints one day, and --days asks for several",
+                "--write prints one day, and --days asks for another number of them",
             ),
         }
     }
