@@ -1,7 +1,7 @@
 // Random numbers that follow from a seed.
 ghost use Rattle.rand_xoshiro.specs.SplitMix64.{splitmix_seed};
 ghost use Rattle.rand_xoshiro.specs.Xoshiro256.{of_seed};
-ghost use Rattle.std.specs.Prelude.{◌≡◌, ◌≤◌};
+ghost use Rattle.std.specs.Prelude.{◌≡◌, ◌≤◌, true};
 
 use rand::RngExt;
 use rand_core::SeedableRng;
@@ -29,7 +29,9 @@ impl Chance {
     }
 
     // True once in so many times.
-    pub fn one_in(&mut self, times: u64) -> bool {
+    pub fn one_in(&mut self, times: u64) -> bool
+        ensures { times ≤ 1 → result ≡ true }
+    {
         self.up_to(times.saturating_sub(1)) == 0
     }
 }

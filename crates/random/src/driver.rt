@@ -1,5 +1,8 @@
 // What drivers wish, and what speeds come of it.
 ghost use Rattle.braking.specs.Limits.{speed_max};
+ghost use Rattle.line.specs.Steps.{state};
+ghost use Rattle.onboard.specs.Train as onboard;
+ghost use Rattle.safety.specs.State.{train_at};
 ghost use Rattle.std.specs.Prelude.{◌≤◌};
 
 use crate::chance::Chance;
@@ -43,8 +46,11 @@ fn highest_let(unit: Onboard) -> u64 {
     lets
 }
 
-// Mostly the highest speed that the train can have in a tick with the wish.
-pub fn some_speed(line: &Line, train: u64, wish: u64, chance: &mut Chance) -> u64 {
+// Mostly the highest speed that the train can have in a tick with the wish, which is what `why_not` tells of a speed
+// that no train can have.
+pub fn some_speed(line: &Line, train: u64, wish: u64, chance: &mut Chance) -> u64
+    ensures { result ≤ onboard.fastest (train_at (state line.now.parts) train).unit wish }
+{
     let too_fast = Event::Tick {
         train,
         wish,
