@@ -1,5 +1,5 @@
 -- Pieces of a text that are played one after the other.
-use Rattle.std.proofs.Common.{◌≡◌, ℕ, ◌+◌, ◌<◌, ◌^◌, List, [], ◌∷◌, ◌++◌, length, take, Ok, Err, Result, Some, None, Option, IfNone, IfOk, IfSome, sym, subst, ap, arith, refl, ◌∙◌, length-append, append_assoc}
+use Rattle.std.proofs.Common.{◌≡◌, ℕ, ◌+◌, ◌<◌, ◌≤◌, ◌^◌, List, [], ◌∷◌, ◌++◌, length, take, Ok, Err, Result, Some, None, Option, IfNone, IfOk, IfSome, sym, subst, ap, arith, refl, ◌∙◌, length-append, append_assoc}
 use Rattle.std.proofs.lemmas.List.{take_all}
 use Rattle.line.specs.declared.gaps.Gaps.{Gaps}
 use Rattle.line.specs.Runs.{Counted, gaps_of, every_gap}
@@ -106,10 +106,10 @@ none_read (first ∷ text) rest (n ∷ lines) [] none read = elim read [ ]
 none_read text rest lines (e ∷ events) none read = absurd (grind (arith, none))
 
 -- where a piece has no event, nothing more is said
-pub no_event_left : (text rest : List Said) (lines : List ℕ) (events : List Event) (stop : Option Stop) → length events ≡ 0 → EventsRead text lines events rest →
-    Stopped stop 512 events rest → IfSome stop (λ s. s ≡ End) → text ≡ []
-no_event_left text rest lines events None none read stopped end = absurd (grind (arith, none, stopped))
-no_event_left text rest lines events (Some stop) none read stopped end = none_read text rest lines events none read ∙ (rw end at stopped.1)
+pub no_event_left : (text rest : List Said) (size : ℕ) (lines : List ℕ) (events : List Event) (stop : Option Stop) → 1 ≤ size → length events ≡ 0 →
+    EventsRead text lines events rest → Stopped stop size events rest → IfSome stop (λ s. s ≡ End) → text ≡ []
+no_event_left text rest size lines events None some none read stopped end = absurd (grind (arith, some, none, stopped))
+no_event_left text rest size lines events (Some stop) some none read stopped end = none_read text rest lines events none read ∙ (rw end at stopped.1)
 
 pub no_more_told : {A E : Type 0} (answer : Result (Option A) E) (stop : Option Stop) (P : Type 0) → (IfSome stop (λ s. s ≡ End) → P) →
     IfOk answer (λ more. (more ≡ None) × IfSome stop (λ s. s ≡ End)) → IfOk answer (λ more. IfNone more P)

@@ -1,8 +1,8 @@
 // What the program is asked to do.
-ghost use Rattle.bench.specs.Asked.{Answers, asked, asked_files, is_option, meaning_of, random, view, with_file};
+ghost use Rattle.bench.specs.Asked.{Answers, asked, asked_files, is_option, is_picture, meaning_of, playing, random, view, with_file, with_input};
 ghost use Rattle.bench.specs.AskedDays.{asked_days};
-ghost use Rattle.bench.specs.declared.arguments.ArgumentError.TheVariants.{NoMemory};
-ghost use Rattle.std.specs.Prelude.{◌≡◌, IfErr, IfNone, IfSome, OnOk, map, string_bytes};
+ghost use Rattle.bench.specs.declared.arguments.ArgumentError.TheVariants.{NoMemory, WrongPicture};
+ghost use Rattle.std.specs.Prelude.{◌≡◌, IfErr, IfNone, IfOk, IfSome, OnOk, false, map, string_bytes, true};
 
 use crate::asked_days::{DaysError, RandomDays, read_days};
 use std::alloc::Global;
@@ -13,6 +13,8 @@ use std::fmt;
 pub struct Arguments<'a> {
     pub quiet: bool,
     pub check: bool,
+    // where the picture of the one file is written, if it is to be drawn
+    pub picture: Option<&'a str>,
     pub files: Vec<&'a str>,
 }
 
@@ -30,6 +32,12 @@ pub enum ArgumentError<'a> {
     // it goes with --random, which comes first
     RandomFirst(&'a str),
     Days(DaysError<'a>),
+    // nothing follows --svg
+    NoPicture,
+    // what follows it is no name of a picture
+    WrongPicture(&'a str),
+    // a picture is of one day
+    SeveralFiles,
     NoMemory,
 }
 
@@ -47,6 +55,16 @@ impl<'a> fmt::Display for ArgumentError<'a> {
                 "'{option}' stands where --random SEED does not come first: bench --help tells more"
             ),
             ArgumentError::Days(error) => write!(f, "{error}"),
+            ArgumentError::NoPicture => f.write_str(
+                "--svg wants the name of a picture after it, which ends in .svg, and then a FILE",
+            ),
+            ArgumentError::WrongPicture(word) => write!(
+                f,
+                "--svg wants the name of a picture after it, which ends in .svg, and found '{word}'"
+            ),
+            ArgumentError::SeveralFiles => {
+                f.write_str("--svg draws one FILE, and several are given")
+            }
             ArgumentError::NoMemory => f.write_str("there is not enough memory"),
         }
     }
@@ -88,11 +106,18 @@ fn read_files<'a>(alloc: Global, given: &'a [String]) -> Result<Request<'a>, Arg
     let mut arguments = Arguments {
         quiet: false,
         check: false,
+        picture: None,
         files: Vec::new(alloc),
     };
     let mut options = true;
+    let mut wanted = false;
     for word in given {
         let word = word.as_str();
+        if wanted {
+            arguments.picture = Some(picture_name(word)?);
+            wanted = false;
+            continue;
+        }
         if !options {
             arguments.add(word)?;
             continue;
@@ -102,6 +127,7 @@ fn read_files<'a>(alloc: Global, given: &'a [String]) -> Result<Request<'a>, Arg
             Meaning::Version => return Ok(Request::Version),
             Meaning::Quiet => arguments.quiet = true,
             Meaning::Check => arguments.check = true,
+            Meaning::Picture => wanted = true,
             Meaning::FilesFollow => options = false,
             Meaning::AfterRandom => return Err(ArgumentError::RandomFirst(word)),
             Meaning::Unknown => return Err(ArgumentError::Unknown(word)),
@@ -111,13 +137,38 @@ fn read_files<'a>(alloc: Global, given: &'a [String]) -> Result<Request<'a>, Arg
             }
         }
     }
-    if arguments.files.is_empty() {
-        arguments.add("-")?;
+    if wanted {
+        return Err(ArgumentError::NoPicture);
     }
-    Ok(Request::Play(arguments))
+    arguments.with_input()
+}
+
+// A picture is written only to a file whose name ends so, or a file that was forgotten would be written over.
+fn picture_name(word: &str) -> Result<&str, ArgumentError<'_>>
+    ensures ok { IfOk result (λ name. (name.now ≡ word.now) × (is_picture word.now ≡ true)) }
+    ensures err { IfErr result (λ error. (error ≡ WrongPicture word.entry) × (is_picture word.now ≡ false)) }
+{
+    if word == "-" || word.as_bytes().ends_with(b".svg") {
+        Ok(word)
+    } else {
+        Err(ArgumentError::WrongPicture(word))
+    }
 }
 
 impl<'a> Arguments<'a> {
+    // With no file, standard input.
+    fn with_input(mut self) -> Result<Request<'a>, ArgumentError<'a>>
+        ensures { Answers result (playing (with_input (view self.entry))) }
+    {
+        if self.files.is_empty() {
+            self.add("-")?;
+        }
+        if self.picture.is_some() && self.files.len() > 1 {
+            return Err(ArgumentError::SeveralFiles);
+        }
+        Ok(Request::Play(self))
+    }
+
     #[tactic(auto, using(crate::proofs::Files::one_more_file))]
     fn add(&mut self, file: &'a str) -> Result<(), ArgumentError<'a>>
         ensures ok { OnOk result (view self.new ≡ with_file (view self.old) file.now) }
@@ -135,6 +186,7 @@ enum Meaning {
     Version,
     Quiet,
     Check,
+    Picture,
     FilesFollow,
     AfterRandom,
     Unknown,
@@ -151,6 +203,7 @@ impl Meaning {
             "--version" => Meaning::Version,
             "--quiet" => Meaning::Quiet,
             "--check" => Meaning::Check,
+            "--svg" => Meaning::Picture,
             "--" => Meaning::FilesFollow,
             "--random" | "--days" | "--events" | "--trains" | "--controllers" | "--write" => {
                 Meaning::AfterRandom

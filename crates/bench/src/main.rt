@@ -3,7 +3,9 @@
 
 mod arguments;
 mod asked_days;
+mod pictures;
 mod play;
+mod printing;
 mod progress;
 mod random_days;
 mod refusal;
@@ -11,16 +13,19 @@ mod text;
 mod ticks;
 
 use arguments::{Arguments, Request, read_arguments};
+use pictures::draw;
 use play::{PlayError, play};
+use printing::Printing;
 use progress::Progress;
 use random_days::{play_days, write_day};
 use refusal::Refused;
 use std::io::{self, BufWriter, Write};
 use std::process::ExitCode;
-use std::{env, fmt};
+use std::{env, fmt, fs};
 use text::read_text;
 
 const USAGE: &str = "usage: bench [--quiet] [--check] [FILE]...
+       bench --svg PICTURE [--quiet] [--check] [FILE]
        bench --random SEED [--days N] [--events N] [--trains N] [--controllers N] [--quiet] [--write]
 
 Plays scenarios: each FILE says how a day begins on a line of trains, and what happens, one event a line.
@@ -38,6 +43,9 @@ comment. Trains, controllers and messages are numbered from 0.
 Options come before the files; after '--' all are files.
   --quiet    leaves out the ticks, and progress on long runs
   --check    says of each file in one line whether it is taken or how it is refused, and goes on
+  --svg PICTURE
+             draws the day of one FILE as a train graph, and prints no ticks; PICTURE is a file whose name ends
+             in .svg, or '-' for standard output
   --help     prints this
   --version  prints the version
 
@@ -60,18 +68,22 @@ fn play_file(rt: &HostRuntime, name: &str, arguments: &Arguments) -> io::Result<
         Ok(text) => text,
         Err(error) => return tell(rt, arguments, format_args!("{name}: {error}")),
     };
-    let mut out = BufWriter::with_capacity(rt.alloc(), 1 << 16, io::writer(rt))?;
+    if let Some(picture) = arguments.picture {
+        return draw_text(rt, name, &text, picture, arguments);
+    }
+    let out = BufWriter::with_capacity(rt.alloc(), 1 << 16, io::writer(rt))?;
     let shown = !arguments.quiet && !arguments.check;
     let mut progress = Progress::new(rt, arguments.quiet, shown)?;
+    let mut printing = Printing::new(rt.alloc(), out, shown);
     let played = play(
         rt.alloc(),
         text.as_str(),
-        &mut out,
-        shown,
-        &mut progress,
         name,
+        &mut printing,
+        &mut progress,
     );
     progress.end()?;
+    let mut out = printing.out;
     match played {
         Ok(gaps) if arguments.check => writeln!(out, "{name}: taken: {gaps}")?,
         Ok(gaps) => writeln!(out, "{gaps}")?,
@@ -87,6 +99,56 @@ fn play_file(rt: &HostRuntime, name: &str, arguments: &Arguments) -> io::Result<
             format_args!("{name}: there is not enough memory"),
         ),
         Err(PlayError::Output(error)) => Err(error),
+    }
+}
+
+// Draws the day of one file, and writes the picture. Answers whether the file was taken.
+fn draw_text(
+    rt: &HostRuntime,
+    name: &str,
+    text: &String,
+    picture: &str,
+    arguments: &Arguments,
+) -> io::Result<bool> {
+    let mut progress = Progress::new(rt, arguments.quiet, false)?;
+    let title = title_of(name);
+    let drawn = draw(rt.alloc(), text.as_str(), title, &mut progress);
+    progress.end()?;
+    let drawn = match drawn {
+        Ok(drawn) => drawn,
+        Err(PlayError::Output(error)) => return Err(error),
+        Err(_) => {
+            return tell(
+                rt,
+                arguments,
+                format_args!("{name}: there is not enough memory"),
+            );
+        }
+    };
+    if picture == "-" {
+        print!(rt; "{}", drawn.svg)?;
+    } else if let Err(error) = fs::write(rt, picture, drawn.svg.as_bytes()) {
+        return tell(
+            rt,
+            arguments,
+            format_args!("{picture}: cannot be written: {error}"),
+        );
+    }
+    match drawn.outcome {
+        Ok(_) if picture == "-" => {}
+        Ok(gaps) if arguments.check => println!(rt; "{name}: taken: {gaps}")?,
+        Ok(gaps) => println!(rt; "{gaps}")?,
+        Err(refused) => return tell_refused(rt, arguments, name, refused),
+    }
+    Ok(true)
+}
+
+// A picture is called as its file, without the folders.
+fn title_of(name: &str) -> &str {
+    match name.rsplit_once('/') {
+        _ if name == "-" => "standard input",
+        Some((_, last)) => last,
+        None => name,
     }
 }
 

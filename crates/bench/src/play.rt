@@ -6,21 +6,17 @@ ghost use Rattle.scenario.specs.declared.entry.HeadLine.{HeadLine};
 ghost use Rattle.scenario.specs.Heads.{brakes_of, controllers_of, trains_of};
 ghost use Rattle.scenario.specs.Texts.{left};
 ghost use Rattle.scenario.specs.declared.reader.Stop.TheVariants.{End};
-ghost use Rattle.std.specs.Prelude.{◌≡◌, ◌<◌, ℕ, List, [], None, IfNone, IfOk, IfSome, Ok, length};
+ghost use Rattle.std.specs.Prelude.{◌≡◌, ◌<◌, ◌≤◌, ℕ, List, [], None, IfNone, IfOk, IfSome, Ok, length};
 
 use crate::progress::Progress;
 use crate::refusal::{Reason, Refused};
-use crate::ticks::write_ticks;
 use braking::Refusal;
 use braking::limits::PLACE_MAX;
 use line::{Gaps, Line, NewError, Seen, Standing, StepError};
+use safety::Event;
 use scenario::{Head, HeadLine, Reader, Stop, explain, misplaced_by, read_head_line, why_not};
 use std::alloc::{AllocError, Global};
-use std::io::{self, Write};
-
-// So many events are read and then run at once, so that a long scenario needs no more memory than its text and the
-// messages that were sent.
-const PIECE: usize = 512;
+use std::io;
 
 #[derive(Drop)]
 pub enum PlayError<'a> {
@@ -41,34 +37,57 @@ impl<'a> From<io::Error> for PlayError<'a> {
     }
 }
 
-// Plays a text, and writes what is seen of its ticks if that is to be shown.
+// The events of a piece, in which lines they stand, what is seen of their ticks, and what gaps there were.
+#[derive(Drop)]
+pub struct Piece {
+    pub events: Vec<Event>,
+    pub lines: Vec<u64>,
+    pub seen: Vec<Seen>,
+    pub gaps: Gaps,
+}
+
+// Somebody who looks on while a text is played.
+pub trait Watcher {
+    // how many events are played before it looks again
+    fn piece_size(&self) -> usize;
+
+    // The head was read, and no event is done.
+    fn begin<'a>(&mut self, line: &Line) -> Result<(), PlayError<'a>>;
+
+    // The events of the piece were done, and no other since. A piece is empty where there is no event more, or its
+    // first is refused.
+    fn look<'a>(&mut self, line: &Line, piece: &Piece) -> Result<(), PlayError<'a>>;
+}
+
+// Plays a text of this name before a watcher.
 #[tactic(auto, using(crate::proofs::Pieces::nothing_played))]
-pub fn play<'a, W: Write>(
+pub fn play<'a, W: Watcher>(
     alloc: Global,
     text: &'a str,
-    out: &mut W,
-    shown: bool,
-    progress: &mut Progress<'_>,
     name: &str,
+    watcher: &mut W,
+    progress: &mut Progress<'_>,
 ) -> Result<Gaps, PlayError<'a>>
     ensures { IfOk result (λ gaps. Played text.now gaps) }
 {
     let mut reader = Reader::new(text);
     let head = reader.head(alloc)?;
     let mut line = new_line(alloc, &head)?;
-    let mut seen = Vec::with_capacity(alloc, PIECE)?;
-    let mut ticks = Vec::new(alloc);
+    watcher.begin(&line)?;
+    let size = watcher.piece_size().max(1);
     let mut gaps = Gaps {
         count: 0,
         smallest: None,
     };
+    let mut piece = Piece {
+        events: Vec::with_capacity(alloc, size)?,
+        lines: Vec::with_capacity(alloc, size)?,
+        seen: Vec::with_capacity(alloc, size)?,
+        gaps,
+    };
     loop {
-        let played = play_piece(alloc, &mut reader, &mut line, &mut seen, gaps);
-        if shown {
-            ticks.clear();
-            write_ticks(&mut ticks, &seen)?;
-            out.write_all(&ticks)?;
-        }
+        let played = play_piece(&mut reader, &mut line, &mut piece, size, gaps);
+        watcher.look(&line, &piece)?;
         let Some(more) = played? else {
             return Ok(gaps);
         };
@@ -81,28 +100,34 @@ pub fn play<'a, W: Write>(
 // Plays the next events of a text, as many as a piece has, by `Line::run`, whose contract says what holds after each
 // of them. Answers what gaps there were so far, or nothing where there is no event more.
 fn play_piece<'a>(
-    alloc: Global,
     reader: &mut Reader<'a>,
     line: &mut Line,
-    seen: &mut Vec<Seen>,
+    piece: &mut Piece,
+    size: usize,
     gaps: Gaps,
 ) -> Result<Option<Gaps>, PlayError<'a>>
+    requires { 1 ≤ size }
     ensures some { IfOk result (λ more. IfSome more (λ more. (text : List ℕ) (head : List HeadLine) →
         PlayedTo text head (left reader.old) (state line.old.parts) gaps → PlayedTo text head (left reader.new) (state line.new.parts) more)) }
     ensures none { IfOk result (λ more. IfNone more (left reader.old ≡ [])) }
     ensures less { IfOk result (λ more. IfSome more (λ _. length (left reader.new) < length (left reader.old))) }
 {
-    let mut events = Vec::with_capacity(alloc, PIECE)?;
-    let mut lines = Vec::with_capacity(alloc, PIECE)?;
-    seen.clear();
-    let stop = reader.events(PIECE, &mut events, &mut lines)?;
-    let piece = events.as_slice();
-    if piece.is_empty() {
+    piece.events.clear();
+    piece.lines.clear();
+    piece.seen.clear();
+    let stop = reader.events(size, &mut piece.events, &mut piece.lines)?;
+    let items = piece.events.as_slice();
+    if items.is_empty() {
         return no_more(*reader, stop);
     }
-    let run = line.run(piece, seen);
+    let run = line.run(items, &mut piece.seen);
+    piece.gaps = run.gaps;
     match run.stop {
-        Some(error) => Err(stopped(line, piece, &lines, run.done, error)),
+        Some(error) => {
+            let why = stopped(line, items, &piece.lines, run.done, error);
+            piece.events.truncate(run.done);
+            Err(why)
+        }
         None => Ok(Some(gaps.and(run.gaps))),
     }
 }
@@ -153,7 +178,7 @@ fn why_not_begin<'a>(trains: &[Standing], refusal: Refusal) -> Reason<'a> {
 // Why a run ended before the last of the events.
 fn stopped<'a>(
     line: &Line,
-    events: &[safety::Event],
+    events: &[Event],
     lines: &[u64],
     done: usize,
     error: StepError,

@@ -6,6 +6,7 @@ ghost use Rattle.std.specs.Prelude.{◌≡◌, ◌++◌, IfOk, string_bytes};
 
 use crate::asked_days::RandomDays;
 use crate::play::{PlayError, play};
+use crate::printing::Printing;
 use crate::progress::Progress;
 use line::Gaps;
 use random::{Day, Extent, random_day};
@@ -82,16 +83,10 @@ pub fn play_days(rt: &HostRuntime, asked: RandomDays) -> io::Result<ExitCode> {
 
 // The gaps of a day. Nothing is told of its ticks, nor of its progress.
 fn play_day<'a>(rt: &HostRuntime, text: &'a String) -> io::Result<Result<Gaps, PlayError<'a>>> {
-    let mut nothing = io::sink();
+    let alloc = rt.alloc();
     let mut silent = Progress::new(rt, true, false)?;
-    Ok(play(
-        rt.alloc(),
-        text.as_str(),
-        &mut nothing,
-        false,
-        &mut silent,
-        "",
-    ))
+    let mut unseen = Printing::new(alloc, io::sink(), false);
+    Ok(play(alloc, text.as_str(), "", &mut unseen, &mut silent))
 }
 
 fn no_memory(rt: &HostRuntime, seed: u64) -> io::Result<ExitCode> {

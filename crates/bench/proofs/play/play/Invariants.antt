@@ -5,8 +5,8 @@ use Rattle.bench.specs.Played.{PlayedTo}
 use Rattle.bench.proofs.play.play.Given as goal
 
 -- the text was played up to what is left of it
-abbrev pub invariant-loop-ticks : goal.invariant-loop-ticks
-invariant-loop-ticks g l = PlayedTo l.text l.head.items (left l.reader) (state l.line.parts) l.gaps
+abbrev pub invariant-loop-piece : goal.invariant-loop-piece
+invariant-loop-piece g l = PlayedTo l.text l.head.items (left l.reader) (state l.line.parts) l.gaps
 
-abbrev pub decreases-loop-ticks : goal.decreases-loop-ticks
-decreases-loop-ticks g l = length (left l.reader)
+abbrev pub decreases-loop-piece : goal.decreases-loop-piece
+decreases-loop-piece g l = length (left l.reader)

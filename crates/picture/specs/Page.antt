@@ -1,0 +1,19 @@
+-- The page, and what lies inside its frame. Assumes nothing: these are definitions.
+use Rattle.std.specs.Prelude.{ℕ, ◌≤◌}
+
+-- the points of a graph lie between these, in tenths of a pixel, to the right and downwards
+abbrev pub left : ℕ
+left = 1250
+
+abbrev pub right : ℕ
+right = 14150
+
+abbrev pub top : ℕ
+top = 1500
+
+abbrev pub foot : ℕ
+foot = 8900
+
+-- inside the frame, and so far from it that a mark at the point is inside too
+abbrev pub Inside : (x y : ℕ) → Type 0
+Inside x y = (left ≤ x) × (x ≤ right) × (top ≤ y) × (y ≤ foot)

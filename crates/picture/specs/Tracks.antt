@@ -1,0 +1,21 @@
+-- The lines of one train. Assumes nothing: these are definitions.
+use Rattle.std.specs.Prelude.{◌≡◌, ℕ, ◌-◌, List, [], ◌∷◌, ◌++◌}
+use Rattle.onboard.specs.declared.train.Train.{Train}
+use Rattle.picture.specs.declared.page.Point.{Point}
+use Rattle.picture.specs.declared.scale.Scale.{Scale}
+use Rattle.picture.specs.declared.track.Lines.{Lines}
+use Rattle.picture.specs.Scales.{across, height}
+
+-- a line goes on to where a place is after so many events
+pub record GoesOn (s : Scale) (events place : ℕ) (before after : List Point) : Type 0 where
+  pub next : Point
+  pub across : next.x ≡ across s events
+  pub height : next.y ≡ height s place
+  pub goes_on : after ≡ before ++ next ∷ []
+
+-- the lines of a train go on to where it is in truth, and to what its unit knows of that
+pub record Followed (s : Scale) (events : ℕ) (train : Train) (before after : Lines) : Type 0 where
+  pub front : GoesOn s events train.front before.fronts.items after.fronts.items
+  pub rear : GoesOn s events (train.front - train.unit.length) before.rears.items after.rears.items
+  pub low : GoesOn s events train.unit.low before.lows.items after.lows.items
+  pub high : GoesOn s events train.unit.high before.highs.items after.highs.items

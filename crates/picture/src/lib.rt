@@ -1,0 +1,29 @@
+// Pictures of days: train graphs, with the events' order to the right and the place upwards.
+#![tactic(auto)]
+
+pub mod drawing;
+pub mod extent;
+mod frame;
+mod grid;
+pub mod heading;
+pub mod laws;
+mod legend;
+mod message_lines;
+pub mod messages;
+pub mod nearest;
+pub mod page;
+mod place;
+mod points;
+pub mod scale;
+pub mod svg;
+pub mod track;
+mod train_lines;
+mod words;
+
+pub use drawing::Drawing;
+pub use extent::Extent;
+pub use heading::Heading;
+pub use laws::scale_laws;
+pub use page::Point;
+pub use scale::Scale;
+pub use svg::write_picture;

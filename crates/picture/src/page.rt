@@ -1,0 +1,38 @@
+// The page, its frame, and points inside the frame. Lengths on the page are in tenths of a pixel, to the right and downwards.
+ghost use Rattle.picture.specs.Page.{Inside};
+ghost use Rattle.std.specs.Prelude.{◌≡◌};
+
+pub const PAGE_WIDTH: u64 = 16_000;
+
+pub const PAGE_HEIGHT: u64 = 11_300;
+
+// Points of the graph lie between these; the frame is drawn MARGIN outside of them, and no mark is larger than that.
+pub const LEFT: u64 = 1_250;
+
+pub const RIGHT: u64 = 14_150;
+
+pub const TOP: u64 = 1_500;
+
+pub const FOOT: u64 = 8_900;
+
+pub const MARGIN: u64 = 100;
+
+// A point of the graph. It always carries the fact that it lies inside the frame.
+#[derive(Clone, Copy, PartialEq, Eq, Debug)]
+pub struct Point {
+    pub x: u64,
+    pub y: u64,
+    ghost inside: { Inside x y },
+}
+
+impl Point {
+    // The place of one at the height of the other: where a step turns.
+    pub fn level_with(self, other: Point) -> Point
+        ensures { (result.x ≡ self.x) × (result.y ≡ other.y) }
+    {
+        Point {
+            x: self.x,
+            y: other.y,
+        }
+    }
+}

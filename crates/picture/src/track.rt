@@ -1,0 +1,109 @@
+// The lines of one train.
+ghost use Rattle.picture.specs.Tracks.{Followed, GoesOn};
+ghost use Rattle.std.specs.Prelude.{OnOk};
+
+use crate::page::Point;
+use crate::scale::Scale;
+use onboard::Train;
+use std::alloc::{AllocError, Global};
+
+#[derive(Drop)]
+pub struct Lines {
+    // where the train really is
+    pub fronts: Vec<Point>,
+    pub rears: Vec<Point>,
+    // where its unit knows its front to be
+    pub lows: Vec<Point>,
+    pub highs: Vec<Point>,
+    // how far it may go, in steps
+    pub ends: Vec<Point>,
+}
+
+impl Lines {
+    fn new(alloc: Global) -> Lines {
+        Lines {
+            fronts: Vec::new(alloc),
+            rears: Vec::new(alloc),
+            lows: Vec::new(alloc),
+            highs: Vec::new(alloc),
+            ends: Vec::new(alloc),
+        }
+    }
+
+    // Draws the lines on to where the train is after so many events.
+    fn draw(&mut self, scale: Scale, events: u64, train: &Train) -> Result<(), AllocError>
+        ensures { OnOk result (Followed scale events train.now self.old self.new) }
+    {
+        let rear = train.front.saturating_sub(train.unit.length);
+        go_on(&mut self.fronts, scale, events, train.front)?;
+        go_on(&mut self.rears, scale, events, rear)?;
+        go_on(&mut self.lows, scale, events, train.unit.low)?;
+        go_on(&mut self.highs, scale, events, train.unit.high)?;
+        step_to(&mut self.ends, scale.point(events, train.unit.end))
+    }
+}
+
+#[derive(Drop)]
+pub struct Track {
+    pub lines: Lines,
+    // where its unit braked, and where it passed a mark
+    pub braked: Vec<Point>,
+    pub marked: Vec<Point>,
+}
+
+// What happened to a train since its lines were drawn on.
+#[derive(Clone, Copy, PartialEq, Eq, Debug)]
+pub struct Since {
+    pub braked: bool,
+    pub marked: bool,
+}
+
+impl Track {
+    pub fn new(alloc: Global) -> Track {
+        Track {
+            lines: Lines::new(alloc),
+            braked: Vec::new(alloc),
+            marked: Vec::new(alloc),
+        }
+    }
+
+    // Draws the train on to where it is after so many events.
+    pub fn draw(
+        &mut self,
+        scale: Scale,
+        events: u64,
+        train: &Train,
+        since: Since,
+    ) -> Result<(), AllocError>
+        ensures { OnOk result (Followed scale events train.now self.old.lines self.new.lines) }
+    {
+        self.lines.draw(scale, events, train)?;
+        let front = scale.point(events, train.front);
+        mark_if(since.braked, &mut self.braked, front)?;
+        mark_if(since.marked, &mut self.marked, front)
+    }
+}
+
+fn mark_if(holds: bool, marks: &mut Vec<Point>, at: Point) -> Result<(), AllocError> {
+    if holds {
+        marks.push(at)?;
+    }
+    Ok(())
+}
+
+fn go_on(line: &mut Vec<Point>, scale: Scale, events: u64, place: u64) -> Result<(), AllocError>
+    ensures { OnOk result (GoesOn scale events place line.old.items line.new.items) }
+{
+    line.push(scale.point(events, place))?;
+    Ok(())
+}
+
+// Goes level to below or above the next point, and then straight to it.
+fn step_to(line: &mut Vec<Point>, next: Point) -> Result<(), AllocError> {
+    if let Some(last) = line.last() {
+        let turn = next.level_with(*last);
+        line.push(turn)?;
+    }
+    line.push(next)?;
+    Ok(())
+}
