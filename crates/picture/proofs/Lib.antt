@@ -1,2 +1,3 @@
 pub mod Shares
 pub mod Scales
+pub mod Trains

@@ -1,7 +1,10 @@
 pub mod Extents
 pub mod Laws
+pub mod Marks
+pub mod MessageLines
 pub mod Nearest
 pub mod Page
 pub mod Points
 pub mod Scales
 pub mod Tracks
+pub mod Trains

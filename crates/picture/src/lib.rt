@@ -8,6 +8,7 @@ mod grid;
 pub mod heading;
 pub mod laws;
 mod legend;
+mod marks;
 mod message_lines;
 pub mod messages;
 pub mod nearest;

@@ -1,8 +1,12 @@
 // Messages of a picture: each at the height of the place that it says, from where it was sent to where it was heard or taken.
+ghost use Rattle.picture.specs.MessageLines.{hearing_text, kind_class};
+ghost use Rattle.std.specs.Prelude.{◌≡◌, ◌++◌, OnOk, Some, string_bytes};
+
+use crate::marks::{Mark, write_mark, write_marks};
 use crate::messages::{Hearing, Kind, Messages, Sending};
 use crate::page::Point;
-use crate::train_lines::write_mark;
 use std::alloc::AllocError;
+use std::fmt;
 
 pub fn write_messages(
     out: &mut String,
@@ -16,35 +20,49 @@ pub fn write_messages(
         write_sending(out, sending)?;
     }
     for hearing in &messages.hearings {
-        write_mark(out, if hearing.taken { "t" } else { "h" }, hearing.at)?;
+        let mark = if hearing.taken {
+            Mark::Taken
+        } else {
+            Mark::Heard
+        };
+        write_mark(out, mark, hearing.at)?;
     }
-    for restart in restarts {
-        write_mark(out, "s", *restart)?;
-    }
-    Ok(())
+    write_marks(out, Mark::Restart, restarts)
 }
 
-fn write_line(out: &mut String, hearing: &Hearing) -> Result<(), AllocError> {
-    let class = match hearing.sending.kind {
-        Kind::Report => "report",
-        Kind::Words => "words",
-        Kind::Grant => "grant",
-    };
+#[tactic(auto, unfolding(crate::specs::MessageLines::hearing_text))]
+fn write_line(out: &mut String, hearing: &Hearing) -> Result<(), AllocError>
+    ensures { OnOk result (string_bytes out.new ≡ string_bytes out.old ++ hearing_text hearing.now) }
+{
+    let kind = hearing.sending.kind;
     let from = hearing.sending.at;
     let to = hearing.at.x;
     let number = hearing.sending.number;
     let place = hearing.sending.place;
     writeln!(
         out,
-        "<path class=\"{class}\" d=\"M{from}H{to}\"><title>message {number}, {place}</title></path>"
+        "<path class=\"{kind}\" d=\"M{from}H{to}\"><title>message {number}, {place}</title></path>"
     )
+}
+
+// The class of its lines.
+impl fmt::Display for Kind {
+    ghost output = { λ kind. Some (kind_class kind) };
+
+    fn fmt<W: fmt::Write>(&self, f: &mut fmt::Formatter<W>) -> fmt::Result {
+        match self {
+            Kind::Report => f.write_str("report"),
+            Kind::Words => f.write_str("words"),
+            Kind::Grant => f.write_str("grant"),
+        }
+    }
 }
 
 fn write_sending(out: &mut String, sending: &Sending) -> Result<(), AllocError> {
     let mark = match sending.kind {
-        Kind::Report => "r",
-        Kind::Words => "w",
-        Kind::Grant => "g",
+        Kind::Report => Mark::Report,
+        Kind::Words => Mark::Words,
+        Kind::Grant => Mark::Grant,
     };
     write_mark(out, mark, sending.at)
 }

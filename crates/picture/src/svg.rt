@@ -3,12 +3,13 @@ use crate::drawing::Drawing;
 use crate::frame::{write_axes, write_frame};
 use crate::heading::{Heading, write_heading};
 use crate::legend::write_legend;
+use crate::marks::write_shapes;
 use crate::message_lines::write_messages;
 use crate::page::{PAGE_HEIGHT, PAGE_WIDTH};
 use crate::train_lines::{write_braked, write_labels, write_trains};
 use std::alloc::AllocError;
 
-// All that is drawn alike, by classes, and the small marks, which stand around their point.
+// All that is drawn alike, by classes.
 const STYLE: &str = "<style>
 text{font-family:sans-serif;font-size:160px;fill:#222;stroke:none}
 .name{font-size:290px;font-weight:bold}
@@ -20,10 +21,15 @@ text{font-family:sans-serif;font-size:160px;fill:#222;stroke:none}
 .frame{fill:none;stroke:#444;stroke-width:12}
 .grid{fill:none;stroke:#ddd;stroke-width:8}
 .cut{fill:none;stroke:#444;stroke-width:10;stroke-dasharray:10 30}
+.c0{stroke:#0072b2;fill:#0072b2}
+.c1{stroke:#d08a00;fill:#d08a00}
+.c2{stroke:#00785a;fill:#00785a}
+.c3{stroke:#56a9dd;fill:#56a9dd}
+.c4{stroke:#a8518a;fill:#a8518a}
 .band{fill-opacity:.28;stroke:none}
-.edge{fill:none;stroke-width:20;stroke-linejoin:round}
-.known{fill:none;stroke-width:7}
-.may{fill:none;stroke-width:16;stroke-dasharray:70 35}
+.edge{fill:none;stroke-linejoin:round}
+.known{fill:none}
+.may{fill:none;stroke-dasharray:70 35}
 .lead{fill:none;stroke-width:6}
 .report{fill:none;stroke:#222;stroke-width:10}
 .words{fill:none;stroke:#222;stroke-width:10;stroke-dasharray:30 25}
@@ -31,46 +37,21 @@ text{font-family:sans-serif;font-size:160px;fill:#222;stroke:none}
 .gap{fill:none;stroke:#000;stroke-width:16}
 .point{fill:none;stroke:#000;stroke-width:8;stroke-dasharray:12 28}
 .stop{fill:none;stroke:#a83a00;stroke-width:24;stroke-dasharray:90 45}
-.c0{stroke:#0072b2;fill:#0072b2}
-.c1{stroke:#d08a00;fill:#d08a00}
-.c2{stroke:#00785a;fill:#00785a}
-.c3{stroke:#56a9dd;fill:#56a9dd}
-.c4{stroke:#a8518a;fill:#a8518a}
-</style>
 ";
 
-// The small marks, by their letters: each stands around its point, and is no larger than the margin of the frame.
-const MARKS: [(&str, &str); 8] = [
-    (
-        "b",
-        "d=\"M-48,-75H48L0,10z\" fill=\"#d55e00\" stroke=\"#fff\" stroke-width=\"8\"",
-    ),
-    (
-        "m",
-        "d=\"M0,-65L65,0L0,65L-65,0z\" fill=\"#fff\" stroke=\"#222\" stroke-width=\"16\"",
-    ),
-    ("r", "d=\"M-36,-36H36V36H-36z\" fill=\"#222\""),
-    (
-        "w",
-        "d=\"M-36,-36H36V36H-36z\" fill=\"#fff\" stroke=\"#222\" stroke-width=\"14\"",
-    ),
-    (
-        "g",
-        "d=\"M-42,-42H42V42H-42z\" fill=\"#9a8f00\" stroke=\"#fff\" stroke-width=\"6\"",
-    ),
-    (
-        "h",
-        "d=\"M-46,0a46,46 0 1 0 92,0a46,46 0 1 0 -92,0z\" fill=\"#fff\" stroke=\"#222\" stroke-width=\"16\"",
-    ),
-    (
-        "t",
-        "d=\"M0,-70L62,45H-62z\" fill=\"#6b6300\" stroke=\"#fff\" stroke-width=\"8\"",
-    ),
-    (
-        "s",
-        "d=\"M-50,-50L50,50M-50,50L50,-50\" fill=\"none\" stroke=\"#222\" stroke-width=\"22\"",
-    ),
-];
+// How thick the lines of trains are: of many trains they are thinner.
+const FEW_TRAINS: &str = ".edge{stroke-width:20}
+.known{stroke-width:7}
+.may{stroke-width:16}
+";
+
+const MANY_TRAINS: &str = ".edge{stroke-width:11}
+.known{stroke-width:5}
+.may{stroke-width:9}
+";
+
+// More trains than these are many.
+const MANY: usize = 16;
 
 // Writes a whole picture, after what was written before.
 pub fn write_picture(
@@ -87,7 +68,7 @@ pub fn write_picture(
     )?;
     write_heading(out, drawing, heading)?;
     write_axes(out, drawing)?;
-    write_trains(out, drawing)?;
+    write_trains(out, &drawing.tracks)?;
     write_messages(out, &drawing.messages, &drawing.restarts)?;
     write_braked(out, drawing)?;
     write_frame(out, drawing, heading.refusal.is_some())?;
@@ -96,19 +77,12 @@ pub fn write_picture(
     out.push_str("</svg>\n")
 }
 
-// What stands before all that is drawn. Where many events stand side by side the marks are smaller, but not in the legend.
+// What stands before all that is drawn.
 pub(crate) fn write_style(out: &mut String, drawing: &Drawing) -> Result<(), AllocError> {
+    let many = drawing.tracks.len() > MANY;
     out.push_str(STYLE)?;
-    let percent = (10_000 / drawing.columns.max(1)).clamp(45, 100);
-    out.push_str("<defs>\n")?;
-    for (mark, shape) in MARKS {
-        writeln!(out, "<path id=\"{mark}{mark}\" {shape}/>")?;
-        writeln!(
-            out,
-            "<path id=\"{mark}\" transform=\"scale({}.{:02})\" {shape}/>",
-            percent / 100,
-            percent % 100
-        )?;
-    }
+    out.push_str(if many { MANY_TRAINS } else { FEW_TRAINS })?;
+    out.push_str("</style>\n<defs>\n")?;
+    write_shapes(out, drawing.columns, drawing.tracks.len() as u64)?;
     out.push_str("</defs>\n")
 }

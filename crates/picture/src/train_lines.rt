@@ -1,64 +1,71 @@
 // The trains of a picture: bands, lines and names.
+ghost use Rattle.picture.specs.Trains.{band_text, line_text, train_text, trains_text};
+ghost use Rattle.std.specs.Prelude.{◌≡◌, ◌++◌, OnOk, string_bytes};
+
 use crate::drawing::Drawing;
+use crate::marks::{Mark, write_marks};
 use crate::page::{FOOT, MARGIN, Point, RIGHT, TOP};
 use crate::points::{write_points, write_points_back};
-use crate::track::Track;
+use crate::track::{Lines, Track};
 use std::alloc::{AllocError, Global};
 
 // There are so many colours; trains that follow one another have different ones.
 const COLOURS: usize = 5;
 
 // The bands and lines of all trains.
-pub fn write_trains(out: &mut String, drawing: &Drawing) -> Result<(), AllocError> {
-    for (train, track) in drawing.tracks.iter().enumerate() {
-        let colour = train % COLOURS;
-        writeln!(out, "<g class=\"c{colour}\"><title>train {train}</title>")?;
-        write_band(out, track)?;
-        write_line(out, "known", &track.lines.lows)?;
-        write_line(out, "known", &track.lines.highs)?;
-        write_line(out, "may", &track.lines.ends)?;
-        writeln!(out, "</g>")?;
+pub fn write_trains(out: &mut String, tracks: &[Track]) -> Result<(), AllocError>
+    ensures { OnOk result (string_bytes out.new ≡ string_bytes out.old ++ trains_text 0 tracks.now) }
+{
+    for (train, track) in tracks.iter().enumerate() {
+        write_train(out, train, &track.lines)?;
     }
     Ok(())
 }
 
-// A train from its rear to its front.
-fn write_band(out: &mut String, track: &Track) -> Result<(), AllocError> {
-    out.push_str("<polygon class=\"band\" points=\"")?;
-    write_points(out, &track.lines.fronts)?;
-    write_points_back(out, &track.lines.rears)?;
-    out.push_str("\"/>\n")?;
-    write_line(out, "edge", &track.lines.fronts)?;
-    write_line(out, "edge", &track.lines.rears)
+#[tactic(auto, using(crate::proofs::Trains::train_written))]
+fn write_train(out: &mut String, train: usize, lines: &Lines) -> Result<(), AllocError>
+    ensures { OnOk result (string_bytes out.new ≡ string_bytes out.old ++ train_text train lines.now) }
+{
+    let colour = train % COLOURS;
+    writeln!(out, "<g class=\"c{colour}\"><title>train {train}</title>")?;
+    write_band(out, lines)?;
+    write_line(out, "known", &lines.lows)?;
+    write_line(out, "known", &lines.highs)?;
+    write_line(out, "may", &lines.ends)?;
+    out.push_str("</g>\n")?;
+    Ok(())
 }
 
-fn write_line(out: &mut String, class: &str, points: &[Point]) -> Result<(), AllocError> {
+// A train from its rear to its front.
+#[tactic(auto, using(crate::proofs::Trains::band_written))]
+fn write_band(out: &mut String, lines: &Lines) -> Result<(), AllocError>
+    ensures { OnOk result (string_bytes out.new ≡ string_bytes out.old ++ band_text lines.now) }
+{
+    out.push_str("<polygon class=\"band\" points=\"")?;
+    write_points(out, &lines.fronts)?;
+    write_points_back(out, &lines.rears)?;
+    out.push_str("\"/>\n")?;
+    write_line(out, "edge", &lines.fronts)?;
+    write_line(out, "edge", &lines.rears)?;
+    Ok(())
+}
+
+fn write_line(out: &mut String, class: &str, points: &[Point]) -> Result<(), AllocError>
+    ensures { OnOk result (string_bytes out.new ≡ string_bytes out.old ++ line_text class.now points.now) }
+{
     write!(out, "<polyline class=\"{class}\" points=\"")?;
     write_points(out, points)?;
-    out.push_str("\"/>\n")
+    out.push_str("\"/>\n")?;
+    Ok(())
 }
 
 // Where units braked, and where trains passed marks.
 pub fn write_braked(out: &mut String, drawing: &Drawing) -> Result<(), AllocError> {
     for track in &drawing.tracks {
-        write_marks(out, "m", &track.marked)?;
-        write_marks(out, "b", &track.braked)?;
+        write_marks(out, Mark::Marked, &track.marked)?;
+        write_marks(out, Mark::Braked, &track.braked)?;
     }
     Ok(())
-}
-
-// The same mark at each point.
-pub fn write_marks(out: &mut String, mark: &str, points: &[Point]) -> Result<(), AllocError> {
-    for point in points {
-        write_mark(out, mark, *point)?;
-    }
-    Ok(())
-}
-
-pub fn write_mark(out: &mut String, mark: &str, at: Point) -> Result<(), AllocError> {
-    let x = at.x;
-    let y = at.y;
-    writeln!(out, "<use href=\"#{mark}\" x=\"{x}\" y=\"{y}\"/>")
 }
 
 // The names of trains, at the right of the frame beside where they are at the end, and not one over another.

@@ -1,0 +1,11 @@
+use Rattle.std.proofs.Common.{◌≡◌, ◌++◌, length, reverse, string_bytes}
+use Rattle.picture.specs.Points.{points_text, turns, turns_after}
+use Rattle.picture.proofs.points.write_points_back.Given as goal
+
+-- what is written and what is left to write are all
+abbrev pub invariant-loop-point : goal.invariant-loop-point
+invariant-loop-point l =
+    string_bytes l.out ++ points_text (turns_after l.last (reverse l.points)) ≡ string_bytes l.initial.out ++ points_text (turns (reverse l.initial.points))
+
+abbrev pub decreases-loop-point : goal.decreases-loop-point
+decreases-loop-point l = length l.points

@@ -1,0 +1,17 @@
+-- The lines of messages as text. Assumes nothing: these are definitions.
+use Rattle.std.specs.Prelude.{ℕ, List, ◌++◌, codes, decimal}
+use Rattle.picture.specs.declared.messages.Hearing.{Hearing}
+use Rattle.picture.specs.declared.messages.Kind.{Kind}
+use Rattle.picture.specs.declared.messages.Kind.TheVariants.{Report, Words, Grant}
+use Rattle.picture.specs.Points.{point_text}
+
+abbrev pub kind_class : Kind → List ℕ
+kind_class Report = codes "report"
+kind_class Words = codes "words"
+kind_class Grant = codes "grant"
+
+-- a level line from where a message was sent to where it was heard or taken, with its number and the place that it says
+unfoldable pub hearing_text : Hearing → List ℕ
+hearing_text h =
+    codes "<path class=\"" ++ (kind_class h.sending.kind ++ (codes "\" d=\"M" ++ (point_text h.sending.at ++ (codes "H" ++ (decimal h.at.x ++
+    (codes "\"><title>message " ++ (decimal h.sending.number ++ (codes ", " ++ (decimal h.sending.place ++ codes "</title></path>\n")))))))))
