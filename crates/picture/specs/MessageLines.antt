@@ -14,4 +14,4 @@ kind_class Grant = codes "grant"
 unfoldable pub hearing_text : Hearing → List ℕ
 hearing_text h =
     codes "<path class=\"" ++ (kind_class h.sending.kind ++ (codes "\" d=\"M" ++ (point_text h.sending.at ++ (codes "H" ++ (decimal h.at.x ++
-    (codes "\"><title>message " ++ (decimal h.sending.number ++ (codes ", " ++ (decimal h.sending.place ++ codes "</title></path>\n")))))))))
+    (codes "\"><title>message " ++ (decimal h.sending.number ++ (codes ", place " ++ (decimal h.sending.place ++ codes " decimetres</title></path>\n")))))))))

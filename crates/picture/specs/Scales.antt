@@ -31,4 +31,4 @@ abbrev pub cut_of : Extent → ℕ
 cut_of e = if nat_lt 0 (used e) && nat_lt (used e + used e / 2) (e.highest - e.lowest) then e.farthest + used e / 20 else e.highest
 
 abbrev pub scale_of : Extent → Scale
-scale_of e = record { events = e.events; lowest = e.lowest; cut = cut_of e; highest = e.highest }
+scale_of e = record { events = max e.events 1; lowest = e.lowest; cut = cut_of e; highest = e.highest }

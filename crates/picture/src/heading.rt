@@ -2,7 +2,7 @@
 use crate::drawing::Drawing;
 use crate::page::{LEFT, PAGE_HEIGHT, PAGE_WIDTH};
 use crate::svg::write_style;
-use crate::words::{write_end_of, write_escaped};
+use crate::words::{broken, write_end_of, write_escaped};
 use line::Gaps;
 use std::alloc::AllocError;
 
@@ -16,7 +16,10 @@ pub struct Heading<'t, 'r> {
 }
 
 // No title is longer on the page, in signs; of a longer one its end is written.
-const TITLE: usize = 80;
+const TITLE: usize = 45;
+
+// No line of a refusal is longer, in bytes, if it has a blank.
+const REFUSAL: usize = 100;
 
 pub fn write_heading(
     out: &mut String,
@@ -37,12 +40,26 @@ pub fn write_heading(
     write!(out, "<text x=\"{LEFT}\" y=\"730\">")?;
     write_counts(out, drawing, heading.gaps)?;
     writeln!(out, "</text>")?;
-    if let Some(refusal) = heading.refusal {
-        write!(out, "<text class=\"wrong\" x=\"{LEFT}\" y=\"980\">")?;
-        write_escaped(out, refusal)?;
-        writeln!(out, "</text>")?;
+    match heading.refusal {
+        Some(refusal) => write_refusal(out, refusal),
+        None => Ok(()),
     }
-    Ok(())
+}
+
+// In two lines, if it is long.
+fn write_refusal(out: &mut String, refusal: &str) -> Result<(), AllocError> {
+    let (first, rest) = broken(refusal, REFUSAL);
+    write_wrong(out, first, 960)?;
+    if rest.is_empty() {
+        return Ok(());
+    }
+    write_wrong(out, rest, 1_160)
+}
+
+fn write_wrong(out: &mut String, text: &str, y: u64) -> Result<(), AllocError> {
+    write!(out, "<text class=\"wrong\" x=\"{LEFT}\" y=\"{y}\">")?;
+    write_escaped(out, text)?;
+    writeln!(out, "</text>")
 }
 
 fn write_counts(out: &mut String, drawing: &Drawing, gaps: Gaps) -> Result<(), AllocError> {

@@ -8,26 +8,43 @@ use crate::page::Point;
 use std::alloc::AllocError;
 use std::fmt;
 
+// The broad lines of grants, which lie under the trains.
+pub fn write_grants(out: &mut String, messages: &Messages) -> Result<(), AllocError> {
+    for hearing in &messages.hearings {
+        if hearing.sending.kind == Kind::Grant {
+            write_line(out, hearing)?;
+        }
+    }
+    Ok(())
+}
+
+// The thin lines of reports, and all marks.
 pub fn write_messages(
     out: &mut String,
     messages: &Messages,
     restarts: &[Point],
 ) -> Result<(), AllocError> {
     for hearing in &messages.hearings {
-        write_line(out, hearing)?;
+        if hearing.sending.kind != Kind::Grant {
+            write_line(out, hearing)?;
+        }
     }
     for sending in &messages.sendings {
         write_sending(out, sending)?;
     }
     for hearing in &messages.hearings {
-        let mark = if hearing.taken {
-            Mark::Taken
-        } else {
-            Mark::Heard
-        };
-        write_mark(out, mark, hearing.at)?;
+        write_hearing(out, hearing)?;
     }
     write_marks(out, Mark::Restart, restarts)
+}
+
+fn write_hearing(out: &mut String, hearing: &Hearing) -> Result<(), AllocError> {
+    let mark = if hearing.taken {
+        Mark::Taken
+    } else {
+        Mark::Heard
+    };
+    write_mark(out, mark, hearing.at)
 }
 
 #[tactic(auto, unfolding(crate::specs::MessageLines::hearing_text))]
@@ -41,7 +58,7 @@ fn write_line(out: &mut String, hearing: &Hearing) -> Result<(), AllocError>
     let place = hearing.sending.place;
     writeln!(
         out,
-        "<path class=\"{kind}\" d=\"M{from}H{to}\"><title>message {number}, {place}</title></path>"
+        "<path class=\"{kind}\" d=\"M{from}H{to}\"><title>message {number}, place {place} decimetres</title></path>"
     )
 }
 

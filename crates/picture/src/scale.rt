@@ -19,7 +19,7 @@ pub struct Scale {
 }
 
 impl Scale {
-    // The scale of a picture that has to hold so much. Where the highest end lies much farther than any train came, the axis is
+    // The scale of a picture that has to hold so much. A day without events is drawn as if one could be. Where the highest end lies much farther than any train came, the axis is
     // cut above the trains.
     pub fn of(extent: Extent) -> Scale
         ensures { result ≡ scale_of extent }
@@ -32,7 +32,7 @@ impl Scale {
             extent.highest
         };
         Scale {
-            events: extent.events,
+            events: extent.events.max(1),
             lowest: extent.lowest,
             cut,
             highest: extent.highest,

@@ -4,7 +4,7 @@ use crate::frame::{write_axes, write_frame};
 use crate::heading::{Heading, write_heading};
 use crate::legend::write_legend;
 use crate::marks::write_shapes;
-use crate::message_lines::write_messages;
+use crate::message_lines::{write_grants, write_messages};
 use crate::page::{PAGE_HEIGHT, PAGE_WIDTH};
 use crate::train_lines::{write_braked, write_labels, write_trains};
 use std::alloc::AllocError;
@@ -33,7 +33,7 @@ text{font-family:sans-serif;font-size:160px;fill:#222;stroke:none}
 .lead{fill:none;stroke-width:6}
 .report{fill:none;stroke:#222;stroke-width:10}
 .words{fill:none;stroke:#222;stroke-width:10;stroke-dasharray:30 25}
-.grant{fill:none;stroke:#9a8f00;stroke-width:34;stroke-opacity:.45}
+.grant{fill:none;stroke:#e8dc6a;stroke-width:50}
 .gap{fill:none;stroke:#000;stroke-width:16}
 .point{fill:none;stroke:#000;stroke-width:8;stroke-dasharray:12 28}
 .stop{fill:none;stroke:#a83a00;stroke-width:24;stroke-dasharray:90 45}
@@ -68,6 +68,7 @@ pub fn write_picture(
     )?;
     write_heading(out, drawing, heading)?;
     write_axes(out, drawing)?;
+    write_grants(out, &drawing.messages)?;
     write_trains(out, &drawing.tracks)?;
     write_messages(out, &drawing.messages, &drawing.restarts)?;
     write_braked(out, drawing)?;

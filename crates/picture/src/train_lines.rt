@@ -96,12 +96,13 @@ fn write_label(
 ) -> Result<(), AllocError> {
     let colour = train % COLOURS;
     let from = RIGHT + MARGIN;
+    let front = end.y;
     let middle = from + 180;
     let to = from + 240;
     let x = from + 280;
     let text = level.saturating_add(size / 3);
     writeln!(
         out,
-        "<path class=\"lead c{colour}\" d=\"M{end}H{from}L{middle},{level}H{to}\"/><text style=\"font-size:{size}px\" x=\"{x}\" y=\"{text}\">train {train}</text>"
+        "<path class=\"lead c{colour}\" d=\"M{from},{front}L{middle},{level}H{to}\"/><text style=\"font-size:{size}px\" x=\"{x}\" y=\"{text}\">train {train}</text>"
     )
 }

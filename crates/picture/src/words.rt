@@ -30,3 +30,17 @@ pub fn write_end_of(out: &mut String, text: &str, most: usize) -> Result<(), All
         None => Ok(()),
     }
 }
+
+// A text of at most so many bytes up to its last blank there, and what follows that.
+pub fn broken(text: &str, most: usize) -> (&str, &str) {
+    if text.len() <= most {
+        return (text, "");
+    }
+    let Some(start) = text.get(..most) else {
+        return (text, "");
+    };
+    match start.rsplit_once(' ') {
+        Some((first, _)) => (first, text.get(first.len() + 1..).unwrap_or("")),
+        None => (text, ""),
+    }
+}
