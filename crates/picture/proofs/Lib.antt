@@ -1,3 +1,4 @@
+pub mod Gaps
 pub mod Shares
 pub mod Scales
 pub mod Trains

@@ -1,5 +1,5 @@
 // Where two trains came closest.
-ghost use Rattle.picture.specs.Nearest.{gap_between};
+ghost use Rattle.picture.specs.Nearest.{SmallestGap, gap_between, gap_of, smaller_gap};
 ghost use Rattle.std.specs.Prelude.{◌≡◌};
 
 use onboard::Train;
@@ -19,7 +19,9 @@ impl Gap {
         self.rear.saturating_sub(self.front)
     }
 
-    fn between(ahead: u64, train: &Train, behind: &Train) -> Gap {
+    fn between(ahead: u64, train: &Train, behind: &Train) -> Gap
+        ensures { result ≡ gap_of ahead train.now behind.now }
+    {
         Gap {
             ahead,
             rear: train.front.saturating_sub(train.unit.length),
@@ -29,13 +31,24 @@ impl Gap {
 }
 
 // The smallest gap between neighbours, and of several the foremost.
-pub fn smallest_gap(trains: &[Train]) -> Option<Gap> {
+#[tactic(auto, using(crate::proofs::Gaps::all))]
+pub fn smallest_gap(trains: &[Train]) -> Option<Gap>
+    ensures { SmallestGap trains.now result }
+{
     let mut smallest: Option<Gap> = None;
-    for (ahead, pair) in trains.windows(2).enumerate() {
-        let gap = Gap::between(ahead as u64, &pair[0], &pair[1]);
-        if smallest.is_none_or(|smallest| gap.size() < smallest.size()) {
-            smallest = Some(gap);
-        }
+    for ahead in 0..trains.len().saturating_sub(1) {
+        let next = Gap::between(ahead as u64, &trains[ahead], &trains[ahead + 1]);
+        smallest = Some(smaller_gap(smallest, next));
     }
     smallest
+}
+
+// The next gap where it is smaller than the smallest so far.
+fn smaller_gap(smallest: Option<Gap>, next: Gap) -> Gap
+    ensures { result ≡ smaller_gap smallest next }
+{
+    match smallest {
+        Some(smallest) if smallest.size() <= next.size() => smallest,
+        _ => next,
+    }
 }
