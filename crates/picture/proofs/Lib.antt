@@ -1,3 +1,4 @@
+pub mod Follows
 pub mod Gaps
 pub mod Shares
 pub mod Scales

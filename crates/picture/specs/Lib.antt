@@ -1,3 +1,4 @@
+pub mod Drawings
 pub mod Extents
 pub mod Laws
 pub mod Marks

@@ -1,9 +1,10 @@
 -- The lines of one train. Assumes nothing: these are definitions.
-use Rattle.std.specs.Prelude.{◌≡◌, ℕ, ◌-◌, List, [], ◌∷◌, ◌++◌}
+use Rattle.std.specs.Prelude.{◌≡◌, ℕ, ◌-◌, List, [], ◌∷◌, ◌++◌, length, Some, slice_get}
 use Rattle.onboard.specs.declared.train.Train.{Train}
 use Rattle.picture.specs.declared.page.Point.{Point}
 use Rattle.picture.specs.declared.scale.Scale.{Scale}
 use Rattle.picture.specs.declared.track.Lines.{Lines}
+use Rattle.picture.specs.declared.track.Track.{Track}
 use Rattle.picture.specs.Scales.{across, height}
 
 -- a line goes on to where a place is after so many events
@@ -19,3 +20,9 @@ pub record Followed (s : Scale) (events : ℕ) (train : Train) (before after : L
   pub rear : GoesOn s events (train.front - train.unit.length) before.rears.items after.rears.items
   pub low : GoesOn s events train.unit.low before.lows.items after.lows.items
   pub high : GoesOn s events train.unit.high before.highs.items after.highs.items
+
+-- the lines of each train go on to where it is; the track of a train has its number
+pub record AllFollowed (s : Scale) (events : ℕ) (trains : List Train) (before after : List Track) : Type 0 where
+  pub count : length after ≡ length before
+  pub each : (n : ℕ) (train : Train) (track : Track) → slice_get trains n ≡ Some train → slice_get before n ≡ Some track →
+      (next : Track) × (slice_get after n ≡ Some next) × Followed s events train track.lines next.lines

@@ -1,4 +1,8 @@
 // A picture of a day while it is drawn, event after event.
+ghost use Rattle.picture.specs.Drawings.{LinesKept, OneMore, nearest_of};
+ghost use Rattle.picture.specs.Tracks.{AllFollowed};
+ghost use Rattle.std.specs.Prelude.{◌≡◌, OnOk};
+
 use crate::extent::Extent;
 use crate::grid::round_step;
 use crate::messages::{Kind, Messages};
@@ -90,22 +94,24 @@ impl Drawing {
         word: Option<Word>,
         trains: &[Train],
         sent: &[[u8; MESSAGE_LENGTH]],
-    ) -> Result<(), AllocError> {
+    ) -> Result<(), AllocError>
+        ensures { OnOk result (OneMore trains.now self.old self.new) }
+    {
         let before = self.column();
         self.events = self.events.saturating_add(1);
         self.note(event, word)?;
         self.note_moment()?;
-        if let (Some(kind), Some(bytes)) = (kind_sent(event), sent.get(self.messages.count())) {
-            self.messages.send(self.scale, self.events, kind, bytes)?;
+        self.note_sent(event, sent)?;
+        self.nearest = nearer(self.nearest, smallest_gap(trains), self.events);
+        if self.column() == before {
+            return Ok(());
         }
-        self.look_at_gaps(trains);
-        if self.column() != before {
-            self.draw(trains)?;
-        }
-        Ok(())
+        self.draw(trains)
     }
 
-    fn note(&mut self, event: Event, word: Option<Word>) -> Result<(), AllocError> {
+    fn note(&mut self, event: Event, word: Option<Word>) -> Result<(), AllocError>
+        ensures { OnOk result (LinesKept self.old self.new) }
+    {
         match event {
             Event::Tick { train, .. } => {
                 self.ticks = self.ticks.saturating_add(1);
@@ -134,7 +140,19 @@ impl Drawing {
         Ok(())
     }
 
-    fn note_moment(&mut self) -> Result<(), AllocError> {
+    // What the event sent, if it did.
+    fn note_sent(&mut self, event: Event, sent: &[[u8; MESSAGE_LENGTH]]) -> Result<(), AllocError>
+        ensures { OnOk result (LinesKept self.old self.new) }
+    {
+        if let (Some(kind), Some(bytes)) = (kind_sent(event), sent.get(self.messages.count())) {
+            self.messages.send(self.scale, self.events, kind, bytes)?;
+        }
+        Ok(())
+    }
+
+    fn note_moment(&mut self) -> Result<(), AllocError>
+        ensures { OnOk result (LinesKept self.old self.new) }
+    {
         if self.events.is_multiple_of(self.step) {
             self.moments.push(Moment {
                 events: self.events,
@@ -150,29 +168,62 @@ impl Drawing {
         (events * self.columns as u128 / self.scale.events.max(1) as u128) as u64
     }
 
-    fn look_at_gaps(&mut self, trains: &[Train]) {
-        let Some(gap) = smallest_gap(trains) else {
-            return;
-        };
-        if self
-            .nearest
-            .is_none_or(|nearest| gap.size() < nearest.gap.size())
-        {
-            self.nearest = Some(Nearest {
-                gap,
-                events: self.events,
-            });
-        }
-    }
-
     // Draws the lines of all trains on to where they are, and what came by radio.
-    fn draw(&mut self, trains: &[Train]) -> Result<(), AllocError> {
-        let states = trains.iter().zip(self.since.iter_mut());
-        for (track, (train, since)) in self.tracks.iter_mut().zip(states) {
-            track.draw(self.scale, self.events, train, *since)?;
-            *since = NOTHING;
-        }
+    fn draw(&mut self, trains: &[Train]) -> Result<(), AllocError>
+        ensures events { self.new.events ≡ self.old.events }
+        ensures scale { self.new.scale ≡ self.old.scale }
+        ensures nearest { self.new.nearest ≡ self.old.nearest }
+        ensures tracks { OnOk result (AllFollowed self.old.scale self.old.events trains.now self.old.tracks.items self.new.tracks.items) }
+    {
+        draw_tracks(
+            &mut self.tracks,
+            &mut self.since,
+            self.scale,
+            self.events,
+            trains,
+        )?;
         self.messages.draw()
+    }
+}
+
+fn draw_tracks(
+    tracks: &mut Vec<Track>,
+    since: &mut Vec<Since>,
+    scale: Scale,
+    events: u64,
+    trains: &[Train],
+) -> Result<(), AllocError>
+    ensures { OnOk result (AllFollowed scale events trains.now tracks.old.items tracks.new.items) }
+{
+    for number in 0..tracks.len().min(trains.len()) {
+        let happened = take_since(since, number);
+        tracks[number].draw(scale, events, &trains[number], happened)?;
+    }
+    Ok(())
+}
+
+// What happened to a train since its lines were drawn on; from now on it is nothing.
+fn take_since(since: &mut Vec<Since>, number: usize) -> Since {
+    match since.get_mut(number) {
+        Some(since) => {
+            let happened = *since;
+            *since = NOTHING;
+            happened
+        }
+        None => NOTHING,
+    }
+}
+
+// The smallest gap so far, after one look more.
+fn nearer(nearest: Option<Nearest>, gap: Option<Gap>, events: u64) -> Option<Nearest>
+    ensures { result ≡ nearest_of nearest gap events }
+{
+    let Some(gap) = gap else {
+        return nearest;
+    };
+    match nearest {
+        Some(nearest) if nearest.gap.size() <= gap.size() => Some(nearest),
+        _ => Some(Nearest { gap, events }),
     }
 }
 

@@ -1,0 +1,31 @@
+-- A drawing from one event to the next. Assumes nothing: these are definitions.
+use Rattle.std.specs.Prelude.{◌≡◌, ℕ, ◌+◌, ◌-◌, ◌^◌, ◌⊎◌, min, List, None, Some, Option, nat_lt, if◌then◌else◌}
+use Rattle.onboard.specs.declared.train.Train.{Train}
+use Rattle.picture.specs.declared.drawing.Drawing.{Drawing}
+use Rattle.picture.specs.declared.drawing.Nearest.{Nearest}
+use Rattle.picture.specs.declared.nearest.Gap.{Gap}
+use Rattle.picture.specs.Nearest.{SmallestGap, gap_between}
+use Rattle.picture.specs.Tracks.{AllFollowed}
+
+-- the smallest gap so far, after one look more: the gap that is the smallest now counts where it is smaller than all before
+abbrev pub nearest_of : Option Nearest → Option Gap → (events : ℕ) → Option Nearest
+nearest_of before None events = before
+nearest_of None (Some gap) events = Some (record { gap = gap; events = events })
+nearest_of (Some before) (Some gap) events = if nat_lt (gap_between gap) (gap_between before.gap) then Some (record { gap = gap; events = events }) else Some before
+
+-- what an event, its message and its ticks leave as it is
+pub record LinesKept (before after : Drawing) : Type 0 where
+  pub events : after.events ≡ before.events
+  pub scale : after.scale ≡ before.scale
+  pub tracks : after.tracks.items ≡ before.tracks.items
+  pub nearest : after.nearest ≡ before.nearest
+
+-- a drawing after one event more, where the trains are so now: its lines go on to the trains, unless that is the same column of
+-- the picture, and the smallest gap so far is that of now where that is smaller
+pub record OneMore (trains : List Train) (before after : Drawing) : Type 0 where
+  pub events : after.events ≡ min (before.events + 1) (2 ^ 64 - 1)
+  pub scale : after.scale ≡ before.scale
+  pub tracks : (after.tracks.items ≡ before.tracks.items) ⊎ AllFollowed after.scale after.events trains before.tracks.items after.tracks.items
+  pub gap : Option Gap
+  pub smallest : SmallestGap trains gap
+  pub nearest : after.nearest ≡ nearest_of before.nearest gap after.events
