@@ -3,6 +3,7 @@ pub mod Extents
 pub mod Laws
 pub mod Marks
 pub mod MessageLines
+pub mod Messages
 pub mod Nearest
 pub mod Page
 pub mod Points

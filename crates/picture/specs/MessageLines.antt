@@ -1,8 +1,8 @@
 -- The lines of messages as text. Assumes nothing: these are definitions.
 use Rattle.std.specs.Prelude.{ℕ, List, ◌++◌, codes, decimal}
-use Rattle.picture.specs.declared.messages.Hearing.{Hearing}
-use Rattle.picture.specs.declared.messages.Kind.{Kind}
-use Rattle.picture.specs.declared.messages.Kind.TheVariants.{Report, Words, Grant}
+use Rattle.picture.specs.declared.sending.Hearing.{Hearing}
+use Rattle.picture.specs.declared.sending.Kind.{Kind}
+use Rattle.picture.specs.declared.sending.Kind.TheVariants.{Report, Words, Grant}
 use Rattle.picture.specs.Points.{point_text}
 
 abbrev pub kind_class : Kind → List ℕ

@@ -5,10 +5,11 @@ ghost use Rattle.std.specs.Prelude.{◌≡◌, OnOk};
 
 use crate::extent::Extent;
 use crate::grid::round_step;
-use crate::messages::{Kind, Messages};
+use crate::messages::Messages;
 use crate::nearest::{Gap, smallest_gap};
 use crate::page::Point;
 use crate::scale::Scale;
+use crate::sending::Kind;
 use crate::track::{Since, Track};
 use message::format::MESSAGE_LENGTH;
 use onboard::{Train, Word};

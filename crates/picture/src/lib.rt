@@ -16,6 +16,7 @@ pub mod page;
 mod place;
 mod points;
 pub mod scale;
+pub mod sending;
 pub mod svg;
 pub mod track;
 mod train_lines;

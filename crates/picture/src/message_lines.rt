@@ -3,8 +3,9 @@ ghost use Rattle.picture.specs.MessageLines.{hearing_text, kind_class};
 ghost use Rattle.std.specs.Prelude.{◌≡◌, ◌++◌, OnOk, Some, string_bytes};
 
 use crate::marks::{Mark, write_mark, write_marks};
-use crate::messages::{Hearing, Kind, Messages, Sending};
+use crate::messages::Messages;
 use crate::page::Point;
+use crate::sending::{Hearing, Kind, Sending};
 use std::alloc::AllocError;
 use std::fmt;
 

@@ -1,34 +1,13 @@
 // What goes over the radio: sendings, hearings and takings.
-use crate::page::Point;
+ghost use Rattle.line.specs.Runs.{one_or_none};
+ghost use Rattle.picture.specs.Messages.{ColumnShown, SentMore, ShownKept, place_said};
+ghost use Rattle.std.specs.Prelude.{◌≡◌, ◌++◌, OnOk, length};
+
 use crate::scale::Scale;
+use crate::sending::{Hearing, Kind, Sending};
 use message::format::MESSAGE_LENGTH;
-use message::{Message, read};
+use message::read;
 use std::alloc::{AllocError, Global};
-
-// What was sent: a unit's report, a controller's words on a train, or a grant.
-#[derive(Clone, Copy, PartialEq, Eq, Debug)]
-pub enum Kind {
-    Report,
-    Words,
-    Grant,
-}
-
-// A message at the place that it says, by its number.
-#[derive(Clone, Copy, PartialEq, Eq, Debug)]
-pub struct Sending {
-    pub number: u64,
-    pub kind: Kind,
-    pub place: u64,
-    pub at: Point,
-}
-
-// A message comes to a controller, which hears it, or to a train, which takes it.
-#[derive(Clone, Copy, PartialEq, Eq, Debug)]
-pub struct Hearing {
-    pub sending: Sending,
-    pub at: Point,
-    pub taken: bool,
-}
 
 // What is drawn of them. Where several come to one column of the picture, the earliest that was sent of each kind is.
 #[derive(Drop)]
@@ -74,7 +53,9 @@ impl Messages {
     }
 
     // How many were sent.
-    pub fn count(&self) -> usize {
+    pub fn count(&self) -> usize
+        ensures { result ≡ length self.now.sent.items }
+    {
         self.sent.len()
     }
 
@@ -84,71 +65,110 @@ impl Messages {
         events: u64,
         kind: Kind,
         bytes: &[u8; MESSAGE_LENGTH],
-    ) -> Result<(), AllocError> {
-        let place = match read(bytes) {
-            Ok(Message::Report { place, .. } | Message::Grant { place, .. }) => place,
-            Err(_) => 0,
-        };
+    ) -> Result<(), AllocError>
+        ensures sent { OnOk result (SentMore scale events kind bytes.now self.old.sent.items self.new.sent.items) }
+        ensures shown { ShownKept self.old self.new }
+    {
+        let place = place_said(bytes);
         let sending = Sending {
-            number: self.sent.len() as u64,
+            number: self.count() as u64,
             kind,
             place,
             at: scale.point(events, place),
         };
         self.sent.push(sending)?;
-        let first = match kind {
-            Kind::Report => &mut self.column.report_sent,
-            Kind::Words => &mut self.column.words_sent,
-            Kind::Grant => &mut self.column.grant_sent,
-        };
-        if first.is_none() {
-            *first = Some(sending);
-        }
+        self.column = self.column.with_sending(sending);
         Ok(())
     }
 
-    pub fn hear(&mut self, scale: Scale, events: u64, message: u64, taken: bool) {
+    pub fn hear(&mut self, scale: Scale, events: u64, message: u64, taken: bool)
+        ensures sent { self.new.sent.items ≡ self.old.sent.items }
+        ensures shown { ShownKept self.old self.new }
+    {
         let Some(sending) = self.sent.get(message as usize) else {
             return;
         };
         let sending = *sending;
-        let hearing = Hearing {
-            sending,
-            at: scale.point(events, sending.place),
-            taken,
-        };
+        let hearing = Hearing::of(sending, scale, events, taken);
         self.heard = self.heard.saturating_add(1);
-        let first = match sending.kind {
-            Kind::Report => &mut self.column.report_heard,
-            Kind::Words => &mut self.column.words_heard,
-            Kind::Grant => &mut self.column.grant_heard,
-        };
-        if first.is_none_or(|first| sending.number < first.sending.number) {
-            *first = Some(hearing);
-        }
+        self.column = self.column.with_hearing(hearing);
     }
 
     // A column is over.
-    pub fn draw(&mut self) -> Result<(), AllocError> {
-        let Column {
-            report_sent,
-            words_sent,
-            grant_sent,
-            report_heard,
-            words_heard,
-            grant_heard,
-        } = self.column;
-        for sending in [report_sent, words_sent, grant_sent] {
-            if let Some(sending) = sending {
-                self.sendings.push(sending)?;
-            }
-        }
-        for hearing in [report_heard, words_heard, grant_heard] {
-            if let Some(hearing) = hearing {
-                self.hearings.push(hearing)?;
-            }
-        }
+    pub fn draw(&mut self) -> Result<(), AllocError>
+        ensures { OnOk result (ColumnShown self.old self.new) }
+    {
+        let column = self.column;
+        push_some(&mut self.sendings, column.report_sent)?;
+        push_some(&mut self.sendings, column.words_sent)?;
+        push_some(&mut self.sendings, column.grant_sent)?;
+        push_some(&mut self.hearings, column.report_heard)?;
+        push_some(&mut self.hearings, column.words_heard)?;
+        push_some(&mut self.hearings, column.grant_heard)?;
         self.column = EMPTY;
         Ok(())
+    }
+}
+
+impl Column {
+    fn with_sending(self, sending: Sending) -> Column {
+        match sending.kind {
+            Kind::Report => Column {
+                report_sent: self.report_sent.or(Some(sending)),
+                ..self
+            },
+            Kind::Words => Column {
+                words_sent: self.words_sent.or(Some(sending)),
+                ..self
+            },
+            Kind::Grant => Column {
+                grant_sent: self.grant_sent.or(Some(sending)),
+                ..self
+            },
+        }
+    }
+
+    fn with_hearing(self, hearing: Hearing) -> Column {
+        match hearing.sending.kind {
+            Kind::Report => Column {
+                report_heard: earlier(self.report_heard, hearing),
+                ..self
+            },
+            Kind::Words => Column {
+                words_heard: earlier(self.words_heard, hearing),
+                ..self
+            },
+            Kind::Grant => Column {
+                grant_heard: earlier(self.grant_heard, hearing),
+                ..self
+            },
+        }
+    }
+}
+
+// Of two hearings that of the earlier message, and of one message the first.
+fn earlier(first: Option<Hearing>, next: Hearing) -> Option<Hearing> {
+    match first {
+        Some(first) if first.sending.number <= next.sending.number => Some(first),
+        _ => Some(next),
+    }
+}
+
+fn push_some<T: Copy>(list: &mut Vec<T>, next: Option<T>) -> Result<(), AllocError>
+    ensures { OnOk result (list.new.items ≡ list.old.items ++ one_or_none next) }
+{
+    if let Some(next) = next {
+        list.push(next)?;
+    }
+    Ok(())
+}
+
+// The place that a message says, and 0 where the bytes cannot be read.
+fn place_said(bytes: &[u8]) -> u64
+    ensures { result ≡ place_said bytes.now }
+{
+    match read(bytes) {
+        Ok(message) => message.place(),
+        Err(_) => 0,
     }
 }
