@@ -1,10 +1,12 @@
 -- A drawing from one event to the next. Assumes nothing: these are definitions.
-use Rattle.std.specs.Prelude.{◌≡◌, ℕ, ◌+◌, ◌-◌, ◌^◌, ◌⊎◌, min, List, None, Some, Option, nat_lt, if◌then◌else◌}
+use Rattle.std.specs.Prelude.{◌≡◌, ℕ, ◌+◌, ◌-◌, ◌^◌, ◌⊎◌, min, List, length, None, Some, Option, nat_lt, if◌then◌else◌}
 use Rattle.onboard.specs.declared.train.Train.{Train}
 use Rattle.picture.specs.declared.drawing.Drawing.{Drawing}
 use Rattle.picture.specs.declared.drawing.Nearest.{Nearest}
+use Rattle.picture.specs.declared.extent.Extent.{Extent}
 use Rattle.picture.specs.declared.nearest.Gap.{Gap}
 use Rattle.picture.specs.Nearest.{SmallestGap, gap_between}
+use Rattle.picture.specs.Scales.{scale_of}
 use Rattle.picture.specs.Tracks.{AllFollowed}
 
 -- the smallest gap so far, after one look more: the gap that is the smallest now counts where it is smaller than all before
@@ -29,3 +31,11 @@ pub record OneMore (trains : List Train) (before after : Drawing) : Type 0 where
   pub gap : Option Gap
   pub smallest : SmallestGap trains gap
   pub nearest : after.nearest ≡ nearest_of before.nearest gap after.events
+
+-- a drawing of a day that will have this extent, before its first event
+pub record Begun (extent : Extent) (trains : List Train) (drawing : Drawing) : Type 0 where
+  pub scale : drawing.scale ≡ scale_of extent
+  pub events : drawing.events ≡ 0
+  pub ticks : drawing.ticks ≡ 0
+  pub tracks : length drawing.tracks.items ≡ length trains
+  pub nearest : drawing.nearest ≡ None

@@ -1,7 +1,7 @@
 // A picture of a day while it is drawn, event after event.
-ghost use Rattle.picture.specs.Drawings.{LinesKept, OneMore, nearest_of};
+ghost use Rattle.picture.specs.Drawings.{Begun, LinesKept, OneMore, nearest_of};
 ghost use Rattle.picture.specs.Tracks.{AllFollowed};
-ghost use Rattle.std.specs.Prelude.{◌≡◌, OnOk};
+ghost use Rattle.std.specs.Prelude.{◌≡◌, IfOk, OnOk, length};
 
 use crate::extent::Extent;
 use crate::grid::round_step;
@@ -62,26 +62,22 @@ const NOTHING: Since = Since {
 
 impl Drawing {
     // A picture of a day that will have this extent, with the trains as they stand at its beginning.
-    pub fn new(alloc: Global, extent: Extent, trains: &[Train]) -> Result<Drawing, AllocError> {
-        let mut tracks = Vec::new(alloc);
-        let mut since = Vec::new(alloc);
-        for _ in trains {
-            tracks.push(Track::new(alloc))?;
-            since.push(NOTHING)?;
-        }
+    pub fn new(alloc: Global, extent: Extent, trains: &[Train]) -> Result<Drawing, AllocError>
+        ensures { IfOk result (Begun extent trains.now) }
+    {
         let most = POINTS / (trains.len() as u64).max(1);
         let mut drawing = Drawing {
             scale: Scale::of(extent),
             columns: extent.events.min(COLUMNS).min(most),
             events: 0,
             ticks: 0,
-            tracks,
+            tracks: new_tracks(alloc, trains.len())?,
             messages: Messages::new(alloc),
             restarts: Vec::new(alloc),
             nearest: None,
             moments: Vec::new(alloc),
             step: round_step(extent.events, MOMENTS),
-            since,
+            since: vec![in alloc; NOTHING; trains.len()]?,
         };
         drawing.note_moment()?;
         drawing.draw(trains)?;
@@ -152,7 +148,8 @@ impl Drawing {
     }
 
     fn note_moment(&mut self) -> Result<(), AllocError>
-        ensures { OnOk result (LinesKept self.old self.new) }
+        ensures lines { OnOk result (LinesKept self.old self.new) }
+        ensures ticks { self.new.ticks ≡ self.old.ticks }
     {
         if self.events.is_multiple_of(self.step) {
             self.moments.push(Moment {
@@ -172,6 +169,7 @@ impl Drawing {
     // Draws the lines of all trains on to where they are, and what came by radio.
     fn draw(&mut self, trains: &[Train]) -> Result<(), AllocError>
         ensures events { self.new.events ≡ self.old.events }
+        ensures ticks { self.new.ticks ≡ self.old.ticks }
         ensures scale { self.new.scale ≡ self.old.scale }
         ensures nearest { self.new.nearest ≡ self.old.nearest }
         ensures tracks { OnOk result (AllFollowed self.old.scale self.old.events trains.now self.old.tracks.items self.new.tracks.items) }
@@ -185,6 +183,16 @@ impl Drawing {
         )?;
         self.messages.draw()
     }
+}
+
+fn new_tracks(alloc: Global, count: usize) -> Result<Vec<Track>, AllocError>
+    ensures { IfOk result (λ tracks. length tracks.items ≡ count) }
+{
+    let mut tracks = Vec::with_capacity(alloc, count)?;
+    for _ in 0..count {
+        tracks.push(Track::new(alloc))?;
+    }
+    Ok(tracks)
 }
 
 fn draw_tracks(
