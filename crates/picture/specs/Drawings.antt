@@ -1,5 +1,5 @@
 -- A drawing from one event to the next. Assumes nothing: these are definitions.
-use Rattle.std.specs.Prelude.{◌≡◌, ℕ, ◌+◌, ◌-◌, ◌^◌, ◌⊎◌, min, List, length, None, Some, Option, nat_lt, if◌then◌else◌}
+use Rattle.std.specs.Prelude.{◌≡◌, ℕ, ◌+◌, ◌-◌, ◌*◌, ◌/◌, ◌^◌, ◌≢◌, min, max, List, length, None, Some, Option, nat_lt, if◌then◌else◌}
 use Rattle.onboard.specs.declared.train.Train.{Train}
 use Rattle.picture.specs.declared.drawing.Drawing.{Drawing}
 use Rattle.picture.specs.declared.drawing.Nearest.{Nearest}
@@ -15,10 +15,15 @@ nearest_of before None events = before
 nearest_of None (Some gap) events = Some (record { gap = gap; events = events })
 nearest_of (Some before) (Some gap) events = if nat_lt (gap_between gap) (gap_between before.gap) then Some (record { gap = gap; events = events }) else Some before
 
+-- the column of the picture that the last event is in
+abbrev pub column_of : Drawing → ℕ
+column_of drawing = min drawing.events drawing.scale.events * drawing.columns / max drawing.scale.events 1
+
 -- what an event, its message and its ticks leave as it is
 pub record LinesKept (before after : Drawing) : Type 0 where
   pub events : after.events ≡ before.events
   pub scale : after.scale ≡ before.scale
+  pub columns : after.columns ≡ before.columns
   pub tracks : after.tracks.items ≡ before.tracks.items
   pub nearest : after.nearest ≡ before.nearest
 
@@ -27,7 +32,9 @@ pub record LinesKept (before after : Drawing) : Type 0 where
 pub record OneMore (trains : List Train) (before after : Drawing) : Type 0 where
   pub events : after.events ≡ min (before.events + 1) (2 ^ 64 - 1)
   pub scale : after.scale ≡ before.scale
-  pub tracks : (after.tracks.items ≡ before.tracks.items) ⊎ AllFollowed after.scale after.events trains before.tracks.items after.tracks.items
+  pub columns : after.columns ≡ before.columns
+  pub kept : column_of after ≡ column_of before → after.tracks.items ≡ before.tracks.items
+  pub drawn : column_of after ≢ column_of before → AllFollowed after.scale after.events trains before.tracks.items after.tracks.items
   pub gap : Option Gap
   pub smallest : SmallestGap trains gap
   pub nearest : after.nearest ≡ nearest_of before.nearest gap after.events

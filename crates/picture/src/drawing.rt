@@ -1,5 +1,5 @@
 // A picture of a day while it is drawn, event after event.
-ghost use Rattle.picture.specs.Drawings.{Begun, LinesKept, OneMore, nearest_of};
+ghost use Rattle.picture.specs.Drawings.{Begun, LinesKept, OneMore, column_of, nearest_of};
 ghost use Rattle.picture.specs.Tracks.{AllFollowed};
 ghost use Rattle.std.specs.Prelude.{◌≡◌, IfOk, OnOk, length};
 
@@ -161,7 +161,9 @@ impl Drawing {
     }
 
     // The column of the picture that the last event is in.
-    fn column(&self) -> u64 {
+    fn column(&self) -> u64
+        ensures { result ≡ column_of self.now }
+    {
         let events = self.events.min(self.scale.events) as u128;
         (events * self.columns as u128 / self.scale.events.max(1) as u128) as u64
     }
@@ -171,6 +173,7 @@ impl Drawing {
         ensures events { self.new.events ≡ self.old.events }
         ensures ticks { self.new.ticks ≡ self.old.ticks }
         ensures scale { self.new.scale ≡ self.old.scale }
+        ensures columns { self.new.columns ≡ self.old.columns }
         ensures nearest { self.new.nearest ≡ self.old.nearest }
         ensures tracks { OnOk result (AllFollowed self.old.scale self.old.events trains.now self.old.tracks.items self.new.tracks.items) }
     {
