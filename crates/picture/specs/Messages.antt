@@ -1,13 +1,16 @@
 -- What goes over the radio. Assumes nothing: these are definitions.
-use Rattle.std.specs.Prelude.{◌≡◌, ℕ, List, [], ◌∷◌, ◌++◌, length, Ok, Err, Result}
+use Rattle.std.specs.Prelude.{◌≡◌, ℕ, Bool, ◌+◌, ◌-◌, ◌^◌, min, List, [], ◌∷◌, ◌++◌, length, Ok, Err, Result, None, Some, Option, nat_lt, if◌then◌else◌}
 use Rattle.braking.specs.declared.refusal.Refusal.{Refusal}
 use Rattle.line.specs.Runs.{one_or_none}
 use Rattle.message.specs.declared.message.Message.{Message}
 use Rattle.message.specs.Bytes.{received}
 use Rattle.message.specs.Messages.{place_of}
+use Rattle.picture.specs.declared.messages.Column.{Column}
 use Rattle.picture.specs.declared.messages.Messages.{Messages}
 use Rattle.picture.specs.declared.scale.Scale.{Scale}
+use Rattle.picture.specs.declared.sending.Hearing.{Hearing}
 use Rattle.picture.specs.declared.sending.Kind.{Kind}
+use Rattle.picture.specs.declared.sending.Kind.TheVariants.{Report, Words, Grant}
 use Rattle.picture.specs.declared.sending.Sending.{Sending}
 use Rattle.picture.specs.Scales.{across, height}
 
@@ -19,15 +22,45 @@ place_of_read (Err why) = 0
 abbrev pub place_said : List ℕ → ℕ
 place_said bytes = place_of_read (received bytes)
 
+-- of each kind a column has the first that was sent
+abbrev pub first : Option Sending → Sending → Option Sending
+first None next = Some next
+first (Some before) next = Some before
+
+abbrev pub with_sending : Kind → Column → Sending → Column
+with_sending Report column next = record column { report_sent = first column.report_sent next }
+with_sending Words column next = record column { words_sent = first column.words_sent next }
+with_sending Grant column next = record column { grant_sent = first column.grant_sent next }
+
+-- and the hearing of the earliest message, and of one message the first
+abbrev pub earlier : Option Hearing → Hearing → Option Hearing
+earlier None next = Some next
+earlier (Some before) next = if nat_lt next.sending.number before.sending.number then Some next else Some before
+
+abbrev pub with_hearing : Kind → Column → Hearing → Column
+with_hearing Report column next = record column { report_heard = earlier column.report_heard next }
+with_hearing Words column next = record column { words_heard = earlier column.words_heard next }
+with_hearing Grant column next = record column { grant_heard = earlier column.grant_heard next }
+
 -- one message more was sent, after so many events; its number is how many were sent before
-pub record SentMore (s : Scale) (events : ℕ) (k : Kind) (bytes : List ℕ) (before after : List Sending) : Type 0 where
+pub record SentMore (s : Scale) (events : ℕ) (k : Kind) (bytes : List ℕ) (before after : Messages) : Type 0 where
   pub next : Sending
-  pub number : next.number ≡ length before
+  pub number : next.number ≡ length before.sent.items
   pub kind : next.kind ≡ k
   pub place : next.place ≡ place_said bytes
   pub across : next.at.x ≡ across s events
   pub height : next.at.y ≡ height s next.place
-  pub goes_on : after ≡ before ++ next ∷ []
+  pub goes_on : after.sent.items ≡ before.sent.items ++ next ∷ []
+  pub column : after.column ≡ with_sending k before.column next
+
+-- one message more was heard or taken, after so many events
+pub record HeardMore (s : Scale) (events : ℕ) (message : Sending) (t : Bool) (before after : Messages) : Type 0 where
+  pub next : Hearing
+  pub sending : next.sending ≡ message
+  pub taken : next.taken ≡ t
+  pub across : next.at.x ≡ across s events
+  pub column : after.column ≡ with_hearing message.kind before.column next
+  pub heard : after.heard ≡ min (before.heard + 1) (2 ^ 64 - 1)
 
 -- one column of the picture more: what it has of each kind
 pub record ColumnShown (before after : Messages) : Type 0 where

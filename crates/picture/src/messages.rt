@@ -1,7 +1,8 @@
 // What goes over the radio: sendings, hearings and takings.
 ghost use Rattle.line.specs.Runs.{one_or_none};
-ghost use Rattle.picture.specs.Messages.{ColumnShown, SentMore, ShownKept, place_said};
-ghost use Rattle.std.specs.Prelude.{◌≡◌, ◌++◌, OnOk, length};
+ghost use Rattle.picture.specs.Messages.{ColumnShown, HeardMore, SentMore, ShownKept, earlier, place_said, with_hearing, with_sending};
+ghost use Rattle.picture.specs.declared.sending.Sending.{Sending};
+ghost use Rattle.std.specs.Prelude.{◌≡◌, ◌++◌, OnOk, Some, length, slice_get};
 
 use crate::scale::Scale;
 use crate::sending::{Hearing, Kind, Sending};
@@ -66,7 +67,7 @@ impl Messages {
         kind: Kind,
         bytes: &[u8; MESSAGE_LENGTH],
     ) -> Result<(), AllocError>
-        ensures sent { OnOk result (SentMore scale events kind bytes.now self.old.sent.items self.new.sent.items) }
+        ensures sent { OnOk result (SentMore scale events kind bytes.now self.old self.new) }
         ensures shown { ShownKept self.old self.new }
     {
         let place = place_said(bytes);
@@ -82,6 +83,7 @@ impl Messages {
     }
 
     pub fn hear(&mut self, scale: Scale, events: u64, message: u64, taken: bool)
+        ensures heard { (sending : Sending) → slice_get self.old.sent.items message ≡ Some sending → HeardMore scale events sending taken self.old self.new }
         ensures sent { self.new.sent.items ≡ self.old.sent.items }
         ensures shown { ShownKept self.old self.new }
     {
@@ -111,7 +113,9 @@ impl Messages {
 }
 
 impl Column {
-    fn with_sending(self, sending: Sending) -> Column {
+    fn with_sending(self, sending: Sending) -> Column
+        ensures { result ≡ with_sending sending.kind self sending }
+    {
         match sending.kind {
             Kind::Report => Column {
                 report_sent: self.report_sent.or(Some(sending)),
@@ -128,7 +132,9 @@ impl Column {
         }
     }
 
-    fn with_hearing(self, hearing: Hearing) -> Column {
+    fn with_hearing(self, hearing: Hearing) -> Column
+        ensures { result ≡ with_hearing hearing.sending.kind self hearing }
+    {
         match hearing.sending.kind {
             Kind::Report => Column {
                 report_heard: earlier(self.report_heard, hearing),
@@ -147,7 +153,9 @@ impl Column {
 }
 
 // Of two hearings that of the earlier message, and of one message the first.
-fn earlier(first: Option<Hearing>, next: Hearing) -> Option<Hearing> {
+fn earlier(first: Option<Hearing>, next: Hearing) -> Option<Hearing>
+    ensures { result ≡ earlier first next }
+{
     match first {
         Some(first) if first.sending.number <= next.sending.number => Some(first),
         _ => Some(next),

@@ -10,4 +10,5 @@ returns-clause-sent c = record {
   across = c.point.ensures.across;
   height = c.point.ensures.height;
   goes_on = c.in_ok-push.ensures.items;
+  column = c.with_sending-self.ensures;
 }
