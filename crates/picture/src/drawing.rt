@@ -10,7 +10,7 @@ use crate::nearest::{Gap, smallest_gap};
 use crate::page::Point;
 use crate::scale::Scale;
 use crate::sending::Kind;
-use crate::track::{Since, Track};
+use crate::track::{Since, Track, mark_if};
 use message::format::MESSAGE_LENGTH;
 use onboard::{Train, Word};
 use safety::Event;
@@ -47,12 +47,15 @@ pub struct Drawing {
     pub ticks: u64,
     pub tracks: Vec<Track>,
     pub messages: Messages,
+    // where controllers restarted
     pub restarts: Vec<Point>,
     pub nearest: Option<Nearest>,
     // after round numbers of events
     pub moments: Vec<Moment>,
     step: u64,
     since: Vec<Since>,
+    // a controller did since lines were drawn on
+    restarted: bool,
 }
 
 const NOTHING: Since = Since {
@@ -78,9 +81,11 @@ impl Drawing {
             moments: Vec::new(alloc),
             step: round_step(extent.events, MOMENTS),
             since: vec![in alloc; NOTHING; trains.len()]?,
+            restarted: false,
         };
         drawing.note_moment()?;
         drawing.draw(trains)?;
+        drawing.stand(extent.events == 0, trains)?;
         Ok(drawing)
     }
 
@@ -96,7 +101,7 @@ impl Drawing {
     {
         let before = self.column();
         self.events = self.events.saturating_add(1);
-        self.note(event, word)?;
+        self.note(event, word);
         self.note_moment()?;
         self.note_sent(event, sent)?;
         self.nearest = nearer(self.nearest, smallest_gap(trains), self.events);
@@ -106,8 +111,8 @@ impl Drawing {
         self.draw(trains)
     }
 
-    fn note(&mut self, event: Event, word: Option<Word>) -> Result<(), AllocError>
-        ensures { OnOk result (LinesKept self.old self.new) }
+    fn note(&mut self, event: Event, word: Option<Word>)
+        ensures { LinesKept self.old self.new }
     {
         match event {
             Event::Tick { train, .. } => {
@@ -128,13 +133,9 @@ impl Drawing {
                 self.messages.hear(self.scale, self.events, message, false)
             }
             Event::Take { message } => self.messages.hear(self.scale, self.events, message, true),
-            Event::Restart { .. } => {
-                let at = self.scale.point(self.events, 0);
-                self.restarts.push(at)?;
-            }
+            Event::Restart { .. } => self.restarted = true,
             Event::Report { .. } | Event::Tell { .. } | Event::Grant { .. } => {}
         }
-        Ok(())
     }
 
     // What the event sent, if it did.
@@ -184,7 +185,24 @@ impl Drawing {
             self.events,
             trains,
         )?;
+        let foot = self.scale.point(self.events, 0);
+        mark_if(self.restarted, &mut self.restarts, foot)?;
+        self.restarted = false;
         self.messages.draw()
+    }
+
+    // Where there is no event, draws the trains as they stand from one edge to the other.
+    fn stand(&mut self, still: bool, trains: &[Train]) -> Result<(), AllocError>
+        ensures events { self.new.events ≡ self.old.events }
+        ensures ticks { self.new.ticks ≡ self.old.ticks }
+        ensures scale { self.new.scale ≡ self.old.scale }
+        ensures nearest { self.new.nearest ≡ self.old.nearest }
+        ensures tracks { OnOk result (length self.new.tracks.items ≡ length self.old.tracks.items) }
+    {
+        if !still {
+            return Ok(());
+        }
+        draw_tracks(&mut self.tracks, &mut self.since, self.scale, 1, trains)
     }
 }
 

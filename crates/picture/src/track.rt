@@ -84,7 +84,7 @@ impl Track {
     }
 }
 
-fn mark_if(holds: bool, marks: &mut Vec<Point>, at: Point) -> Result<(), AllocError> {
+pub(crate) fn mark_if(holds: bool, marks: &mut Vec<Point>, at: Point) -> Result<(), AllocError> {
     if holds {
         marks.push(at)?;
     }
