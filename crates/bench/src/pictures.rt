@@ -123,6 +123,9 @@ impl Watcher for Sketch {
 
     fn begin<'a>(&mut self, line: &Line) -> Result<(), PlayError<'a>> {
         self.drawing = Drawing::new(self.alloc, self.extent, line.trains())?;
+        if self.extent.events == 0 {
+            self.drawing.stand(line.trains())?;
+        }
         Ok(())
     }
 

@@ -85,7 +85,6 @@ impl Drawing {
         };
         drawing.note_moment()?;
         drawing.draw(trains)?;
-        drawing.stand(extent.events == 0, trains)?;
         Ok(drawing)
     }
 
@@ -191,18 +190,17 @@ impl Drawing {
         self.messages.draw()
     }
 
-    // Where there is no event, draws the trains as they stand from one edge to the other.
-    fn stand(&mut self, still: bool, trains: &[Train]) -> Result<(), AllocError>
-        ensures events { self.new.events ≡ self.old.events }
-        ensures ticks { self.new.ticks ≡ self.old.ticks }
-        ensures scale { self.new.scale ≡ self.old.scale }
-        ensures nearest { self.new.nearest ≡ self.old.nearest }
-        ensures tracks { OnOk result (length self.new.tracks.items ≡ length self.old.tracks.items) }
+    // Draws the trains of a day without events as they stand, from one edge to the other.
+    pub fn stand(&mut self, trains: &[Train]) -> Result<(), AllocError>
+        ensures { OnOk result (AllFollowed self.old.scale 1 trains.now self.old.tracks.items self.new.tracks.items) }
     {
-        if !still {
-            return Ok(());
-        }
-        draw_tracks(&mut self.tracks, &mut self.since, self.scale, 1, trains)
+        draw_tracks(
+            &mut self.tracks,
+            &mut self.since,
+            self.scale,
+            1,
+            trains,
+        )
     }
 }
 
