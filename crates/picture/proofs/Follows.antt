@@ -1,12 +1,18 @@
 -- The tracks that were drawn on so far, and one more.
-use Rattle.std.proofs.Common.{◌≡◌, ℕ, zero, suc, [], ◌∷◌, ◌+◌, ◌<◌, ◌≤◌, List, length, min, Some, slice_get, get_or, set, ◌≢◌, refl, sym, ap, ◌∙◌, subst, arith}
+use Rattle.std.proofs.Common.{◌≡◌, ℕ, zero, suc, [], ◌∷◌, ◌++◌, length-append, ◌+◌, ◌<◌, ◌≤◌, List, length, min, None, Some, slice_get, get_or, set, ◌≢◌, refl, sym, ap, ◌∙◌, subst, arith}
+use Rattle.std.proofs.Math.Logic.{inl, inr}
 use native.Mathlib.Decide.{dec_le}
-use Rattle.std.proofs.lemmas.Option.{slice_get-get_or, slice_get_within, get_or_from_slice_get}
+use Rattle.std.proofs.lemmas.Option.{slice_get-get_or, slice_get_cases, slice_get_within, get_or_from_slice_get}
 use Rattle.std.proofs.lemmas.List.{get_or-set_same, length-set}
 use Rattle.onboard.specs.declared.train.Train.{Train}
+use Rattle.picture.specs.declared.drawing.Drawing.{Drawing}
+use Rattle.picture.specs.declared.extent.Extent.{Extent}
 use Rattle.picture.specs.declared.scale.Scale.{Scale}
+use Rattle.picture.specs.declared.track.Lines.{Lines}
 use Rattle.picture.specs.declared.track.Track.{Track}
-use Rattle.picture.specs.Tracks.{AllFollowed, Followed}
+use Rattle.picture.specs.Drawings.{Begun}
+use Rattle.picture.specs.Scales.{scale_of}
+use Rattle.picture.specs.Tracks.{AllFollowed, Followed, NoLines, NoneDrawn}
 
 -- those with lower numbers went on, and the others are as they were
 pub record FollowedBelow (s : Scale) (events : ℕ) (trains : List Train) (before after : List Track) (below : ℕ) : Type 0 where
@@ -52,3 +58,43 @@ all_followed s events trains before after below all h = record {
   count = h.count;
   each = λ n train track t b. h.each n train track (omega (arith, all, slice_get_within trains n train t, slice_get_within before n track b)) t b;
 }
+
+-- one track without lines more
+none_more : (tracks : List Track) (new : Track) → ((n : ℕ) (track : Track) → slice_get tracks n ≡ Some track → NoLines track.lines) → NoLines new.lines →
+    (n : ℕ) (track : Track) → slice_get (tracks ++ new ∷ []) n ≡ Some track → NoLines track.lines
+none_more [] new each none zero track e = let is : new ≡ track = grind (arith, e) in subst (λ (t : Track). NoLines t.lines) is none
+none_more [] new each none (suc n) track e = absurd (grind (arith, e))
+none_more (first ∷ tracks) new each none zero track e = each zero track e
+none_more (first ∷ tracks) new each none (suc n) track e = none_more tracks new (λ m t. each (suc m) t) none n track e
+
+pub none_drawn_more : (count : ℕ) (tracks after : List Track) (new : Track) → NoneDrawn count tracks → NoLines new.lines → after ≡ tracks ++ new ∷ [] →
+    NoneDrawn (count + 1) after
+none_drawn_more count tracks after new before none e =
+    subst (NoneDrawn (count + 1)) (sym e) (record {
+      number = omega (arith, before.number, length-append tracks (new ∷ []));
+      each = none_more tracks new before.each none;
+    })
+
+-- the lines of each train begin
+first_drawn : (s : Scale) (trains : List Train) (before after : List Track) → NoneDrawn (length trains) before → AllFollowed s 0 trains before after →
+    (n : ℕ) (train : Train) → slice_get trains n ≡ Some train →
+    (track : Track) × (slice_get after n ≡ Some track) × ((none : Lines) × NoLines none × Followed s 0 train none track.lines)
+first_drawn s trains before after none all n train t = elim (slice_get_cases before n).1 [
+  | inl h ↦ let next = all.each n train h.0 t h.2 in (next.0, next.1, (h.0.lines, none.each n h.0 h.2, next.2))
+  | inr h ↦ absurd (omega (arith, h.0, none.number, slice_get_within trains n train t))
+]
+
+pub begun : (extent : Extent) (trains : List Train) (before : List Track) (noted after : Drawing) → NoneDrawn (length trains) before →
+    noted.scale ≡ scale_of extent → noted.events ≡ 0 → noted.ticks ≡ 0 → noted.tracks.items ≡ before → noted.nearest ≡ None →
+    after.scale ≡ noted.scale → after.events ≡ noted.events → after.ticks ≡ noted.ticks → after.nearest ≡ noted.nearest →
+    AllFollowed noted.scale noted.events trains noted.tracks.items after.tracks.items → Begun extent trains after
+begun extent trains before noted after none scale events ticks tracks nearest same_scale same_events same_ticks same_nearest all =
+    let drawn : AllFollowed after.scale 0 trains before after.tracks.items = rw (sym tracks, same_scale, sym events) all in
+    record {
+      scale = same_scale ∙ scale;
+      events = same_events ∙ events;
+      ticks = same_ticks ∙ ticks;
+      tracks = drawn.count ∙ none.number;
+      lines = first_drawn after.scale trains before after.tracks.items none drawn;
+      nearest = same_nearest ∙ nearest;
+    }

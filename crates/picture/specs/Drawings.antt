@@ -1,13 +1,15 @@
 -- A drawing from one event to the next. Assumes nothing: these are definitions.
-use Rattle.std.specs.Prelude.{◌≡◌, ℕ, ◌+◌, ◌-◌, ◌*◌, ◌/◌, ◌^◌, ◌≢◌, min, max, List, length, None, Some, Option, nat_lt, if◌then◌else◌}
+use Rattle.std.specs.Prelude.{◌≡◌, ℕ, ◌+◌, ◌-◌, ◌*◌, ◌/◌, ◌^◌, ◌≢◌, min, max, List, length, None, Some, Option, slice_get, nat_lt, if◌then◌else◌}
 use Rattle.onboard.specs.declared.train.Train.{Train}
 use Rattle.picture.specs.declared.drawing.Drawing.{Drawing}
 use Rattle.picture.specs.declared.drawing.Nearest.{Nearest}
 use Rattle.picture.specs.declared.extent.Extent.{Extent}
 use Rattle.picture.specs.declared.nearest.Gap.{Gap}
+use Rattle.picture.specs.declared.track.Lines.{Lines}
+use Rattle.picture.specs.declared.track.Track.{Track}
 use Rattle.picture.specs.Nearest.{SmallestGap, gap_between}
 use Rattle.picture.specs.Scales.{scale_of}
-use Rattle.picture.specs.Tracks.{AllFollowed}
+use Rattle.picture.specs.Tracks.{AllFollowed, Followed, NoLines}
 
 -- the smallest gap so far, after one look more: the gap that is the smallest now counts where it is smaller than all before
 abbrev pub nearest_of : Option Nearest → Option Gap → (events : ℕ) → Option Nearest
@@ -39,10 +41,12 @@ pub record OneMore (trains : List Train) (before after : Drawing) : Type 0 where
   pub smallest : SmallestGap trains gap
   pub nearest : after.nearest ≡ nearest_of before.nearest gap after.events
 
--- a drawing of a day that will have this extent, before its first event
+-- a drawing of a day that will have this extent, before its first event: the lines of each train begin where it stands
 pub record Begun (extent : Extent) (trains : List Train) (drawing : Drawing) : Type 0 where
   pub scale : drawing.scale ≡ scale_of extent
   pub events : drawing.events ≡ 0
   pub ticks : drawing.ticks ≡ 0
   pub tracks : length drawing.tracks.items ≡ length trains
+  pub lines : (n : ℕ) (train : Train) → slice_get trains n ≡ Some train →
+      (track : Track) × (slice_get drawing.tracks.items n ≡ Some track) × ((none : Lines) × NoLines none × Followed drawing.scale 0 train none track.lines)
   pub nearest : drawing.nearest ≡ None

@@ -22,6 +22,17 @@ place_of_read (Err why) = 0
 abbrev pub place_said : List ℕ → ℕ
 place_said bytes = place_of_read (received bytes)
 
+abbrev pub empty : Column
+empty = record { report_sent = None; words_sent = None; grant_sent = None; report_heard = None; words_heard = None; grant_heard = None }
+
+-- none was sent, and none heard
+pub record NoMessages (messages : Messages) : Type 0 where
+  pub sent : messages.sent.items ≡ []
+  pub sendings : messages.sendings.items ≡ []
+  pub hearings : messages.hearings.items ≡ []
+  pub heard : messages.heard ≡ 0
+  pub column : messages.column ≡ empty
+
 -- of each kind a column has the first that was sent
 abbrev pub first : Option Sending → Sending → Option Sending
 first None next = Some next
@@ -67,6 +78,7 @@ pub record ColumnShown (before after : Messages) : Type 0 where
   pub sendings : after.sendings.items ≡ before.sendings.items ++ (one_or_none before.column.report_sent ++ (one_or_none before.column.words_sent ++ one_or_none before.column.grant_sent))
   pub hearings : after.hearings.items ≡ before.hearings.items ++ (one_or_none before.column.report_heard ++ (one_or_none before.column.words_heard ++ one_or_none before.column.grant_heard))
   pub sent : after.sent.items ≡ before.sent.items
+  pub column : after.column ≡ empty
 
 -- what is drawn of the messages so far is as it was
 pub record ShownKept (before after : Messages) : Type 0 where

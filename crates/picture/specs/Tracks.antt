@@ -26,3 +26,16 @@ pub record AllFollowed (s : Scale) (events : ℕ) (trains : List Train) (before 
   pub count : length after ≡ length before
   pub each : (n : ℕ) (train : Train) (track : Track) → slice_get trains n ≡ Some train → slice_get before n ≡ Some track →
       (next : Track) × (slice_get after n ≡ Some next) × Followed s events train track.lines next.lines
+
+-- nothing of a train was drawn yet
+pub record NoLines (lines : Lines) : Type 0 where
+  pub fronts : lines.fronts.items ≡ []
+  pub rears : lines.rears.items ≡ []
+  pub lows : lines.lows.items ≡ []
+  pub highs : lines.highs.items ≡ []
+  pub ends : lines.ends.items ≡ []
+
+-- so many tracks without lines
+pub record NoneDrawn (count : ℕ) (tracks : List Track) : Type 0 where
+  pub number : length tracks ≡ count
+  pub each : (n : ℕ) (track : Track) → slice_get tracks n ≡ Some track → NoLines track.lines

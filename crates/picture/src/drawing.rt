@@ -1,6 +1,6 @@
 // A picture of a day while it is drawn, event after event.
 ghost use Rattle.picture.specs.Drawings.{Begun, LinesKept, OneMore, column_of, nearest_of};
-ghost use Rattle.picture.specs.Tracks.{AllFollowed};
+ghost use Rattle.picture.specs.Tracks.{AllFollowed, NoneDrawn};
 ghost use Rattle.std.specs.Prelude.{◌≡◌, IfOk, OnOk, length};
 
 use crate::extent::Extent;
@@ -205,7 +205,7 @@ impl Drawing {
 }
 
 fn new_tracks(alloc: Global, count: usize) -> Result<Vec<Track>, AllocError>
-    ensures { IfOk result (λ tracks. length tracks.items ≡ count) }
+    ensures { IfOk result (λ tracks. NoneDrawn count tracks.items) }
 {
     let mut tracks = Vec::with_capacity(alloc, count)?;
     for _ in 0..count {

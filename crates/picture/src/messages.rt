@@ -1,8 +1,8 @@
 // What goes over the radio: sendings, hearings and takings.
 ghost use Rattle.line.specs.Runs.{one_or_none};
-ghost use Rattle.picture.specs.Messages.{ColumnShown, HeardMore, SentMore, ShownKept, earlier, place_said, with_hearing, with_sending};
+ghost use Rattle.picture.specs.Messages.{ColumnShown, HeardMore, NoMessages, SentMore, ShownKept, earlier, place_said, with_hearing, with_sending};
 ghost use Rattle.picture.specs.declared.sending.Sending.{Sending};
-ghost use Rattle.std.specs.Prelude.{◌≡◌, ◌++◌, OnOk, Some, length, slice_get};
+ghost use Rattle.std.specs.Prelude.{◌≡◌, ◌++◌, OnOk, None, Some, length, slice_get};
 
 use crate::scale::Scale;
 use crate::sending::{Hearing, Kind, Sending};
@@ -43,7 +43,9 @@ const EMPTY: Column = Column {
 };
 
 impl Messages {
-    pub fn new(alloc: Global) -> Messages {
+    pub fn new(alloc: Global) -> Messages
+        ensures { NoMessages result }
+    {
         Messages {
             sent: Vec::new(alloc),
             sendings: Vec::new(alloc),
@@ -84,6 +86,7 @@ impl Messages {
 
     pub fn hear(&mut self, scale: Scale, events: u64, message: u64, taken: bool)
         ensures heard { (sending : Sending) → slice_get self.old.sent.items message ≡ Some sending → HeardMore scale events sending taken self.old self.new }
+        ensures unknown { slice_get self.old.sent.items message ≡ None → (self.new.column ≡ self.old.column) × (self.new.heard ≡ self.old.heard) }
         ensures sent { self.new.sent.items ≡ self.old.sent.items }
         ensures shown { ShownKept self.old self.new }
     {

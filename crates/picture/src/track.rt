@@ -1,5 +1,5 @@
 // The lines of one train.
-ghost use Rattle.picture.specs.Tracks.{Followed, GoesOn};
+ghost use Rattle.picture.specs.Tracks.{Followed, GoesOn, NoLines};
 ghost use Rattle.std.specs.Prelude.{OnOk};
 
 use crate::page::Point;
@@ -20,7 +20,9 @@ pub struct Lines {
 }
 
 impl Lines {
-    fn new(alloc: Global) -> Lines {
+    fn new(alloc: Global) -> Lines
+        ensures { NoLines result }
+    {
         Lines {
             fronts: Vec::new(alloc),
             rears: Vec::new(alloc),
@@ -59,7 +61,9 @@ pub struct Since {
 }
 
 impl Track {
-    pub fn new(alloc: Global) -> Track {
+    pub fn new(alloc: Global) -> Track
+        ensures { NoLines result.lines }
+    {
         Track {
             lines: Lines::new(alloc),
             braked: Vec::new(alloc),
