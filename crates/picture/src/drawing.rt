@@ -194,13 +194,7 @@ impl Drawing {
     pub fn stand(&mut self, trains: &[Train]) -> Result<(), AllocError>
         ensures { OnOk result (AllFollowed self.old.scale 1 trains.now self.old.tracks.items self.new.tracks.items) }
     {
-        draw_tracks(
-            &mut self.tracks,
-            &mut self.since,
-            self.scale,
-            1,
-            trains,
-        )
+        draw_tracks(&mut self.tracks, &mut self.since, self.scale, 1, trains)
     }
 }
 
