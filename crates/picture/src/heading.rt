@@ -19,7 +19,7 @@ pub struct Heading<'t, 'r> {
 const TITLE: usize = 45;
 
 // No line of a refusal is longer, in bytes, if it has a blank.
-const REFUSAL: usize = 100;
+const REFUSAL: usize = 120;
 
 pub fn write_heading(
     out: &mut String,
