@@ -45,7 +45,7 @@ install_package() {
 # it was: nothing may run unless this proof went through. The run with --help is only there to have it built.
 build_bench() {
     need grep grep
-    say "proving and building what has changed of the bench (the first time: about six minutes)"
+    say "proving and building what has changed of the bench (the first time: about seven minutes)"
     local log
     log=$(mktemp)
     if ! (cd "$1/crates/bench" && rt run -- --help) 2>&1 </dev/null | tee "$log" | { grep --line-buffered '^checked ' || true; } >&2; then

@@ -19,7 +19,7 @@ unfolding band_text
 band_written l old one two three four five all a b c d e f = rw (f, e, d, c, b, a) (simp append_assoc refl)
 
 pub train_written : (train : ℕ) (l : Lines) (old one two three four five all : List ℕ) →
-    one ≡ old ++ (codes "<g class=\"c" ++ (decimal (train % 5) ++ (codes "\"><title>train " ++ (decimal train ++ codes "</title>\n")))) →
+    one ≡ old ++ (codes "<g class=\"c" ++ (decimal (train % 6) ++ (codes "\"><title>train " ++ (decimal train ++ codes "</title>\n")))) →
     two ≡ one ++ band_text l → three ≡ two ++ line_text (codes "known") l.lows.items → four ≡ three ++ line_text (codes "known") l.highs.items →
     five ≡ four ++ line_text (codes "may") l.ends.items → all ≡ five ++ codes "</g>\n" → all ≡ old ++ train_text train l
 unfolding train_text

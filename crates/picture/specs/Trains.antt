@@ -18,7 +18,7 @@ band_text l =
 -- and what its unit knows, and how far it may go
 unfoldable pub train_text : (train : ℕ) → Lines → List ℕ
 train_text train l =
-    codes "<g class=\"c" ++ (decimal (train % 5) ++ (codes "\"><title>train " ++ (decimal train ++ (codes "</title>\n" ++ (band_text l ++
+    codes "<g class=\"c" ++ (decimal (train % 6) ++ (codes "\"><title>train " ++ (decimal train ++ (codes "</title>\n" ++ (band_text l ++
     (line_text (codes "known") l.lows.items ++ (line_text (codes "known") l.highs.items ++ (line_text (codes "may") l.ends.items ++ codes "</g>\n"))))))))
 
 -- trains from this number on

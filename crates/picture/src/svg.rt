@@ -26,6 +26,7 @@ text{font-family:sans-serif;font-size:160px;fill:#222;stroke:none}
 .c2{stroke:#00785a;fill:#00785a}
 .c3{stroke:#56a9dd;fill:#56a9dd}
 .c4{stroke:#a8518a;fill:#a8518a}
+.c5{stroke:#969696;fill:#969696}
 .band{fill-opacity:.28;stroke:none}
 .edge{fill:none;stroke-linejoin:round}
 .known{fill:none}

@@ -10,7 +10,7 @@ use crate::track::{Lines, Track};
 use std::alloc::{AllocError, Global};
 
 // There are so many colours; trains that follow one another have different ones.
-const COLOURS: usize = 5;
+const COLOURS: usize = 6;
 
 // The bands and lines of all trains.
 pub fn write_trains(out: &mut String, tracks: &[Track]) -> Result<(), AllocError>
