@@ -22,8 +22,8 @@ pub struct Sending {
     pub at: Point,
 }
 
-// A message comes to a controller, which hears it, or to a train, which takes it. It always carries the fact that it is drawn
-// level with its sending.
+// A message comes to a controller, which hears it, or to a train, which takes it. It always carries the fact that it is
+// drawn level with its sending.
 #[derive(Clone, Copy, PartialEq, Eq, Debug)]
 pub struct Hearing {
     pub sending: Sending,
