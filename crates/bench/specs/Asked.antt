@@ -90,8 +90,11 @@ asked_after true false p (word ∷ words) =
     by_meaning (meaning_of word) word (asked_after true false (record p { quiet = true }) words) (asked_after true false (record p { check = true }) words)
     (asked_after true true p words) (asked_after false false p words) (asked_after false false (with_file p word) words)
 
+abbrev pub nothing_asked : Playing
+nothing_asked = record { quiet = false; check = false; picture = None; files = [] }
+
 abbrev pub asked_files : List (List ℕ) → Asked
-asked_files = asked_after true false (record { quiet = false; check = false; picture = None; files = [] })
+asked_files = asked_after true false nothing_asked
 
 -- where --random comes first, random days are asked for
 abbrev pub asked : List (List ℕ) → Asked

@@ -1,5 +1,5 @@
 // What the program is asked to do.
-ghost use Rattle.bench.specs.Asked.{Answers, asked, asked_files, is_option, is_picture, meaning_of, playing, random, view, with_file, with_input};
+ghost use Rattle.bench.specs.Asked.{Answers, asked, asked_files, is_option, is_picture, meaning_of, nothing_asked, playing, random, view, with_file, with_input};
 ghost use Rattle.bench.specs.AskedDays.{asked_days};
 ghost use Rattle.bench.specs.declared.arguments.ArgumentError.TheVariants.{NoMemory, WrongPicture};
 ghost use Rattle.std.specs.Prelude.{◌≡◌, IfErr, IfNone, IfOk, IfSome, OnOk, false, map, string_bytes, true};
@@ -103,12 +103,7 @@ fn after_random(given: &[String]) -> Option<&[String]>
 fn read_files<'a>(alloc: Global, given: &'a [String]) -> Result<Request<'a>, ArgumentError<'a>>
     ensures { Answers result (asked_files (map string_bytes given.now)) }
 {
-    let mut arguments = Arguments {
-        quiet: false,
-        check: false,
-        picture: None,
-        files: Vec::new(alloc),
-    };
+    let mut arguments = Arguments::new(alloc);
     let mut options = true;
     let mut wanted = false;
     for word in given {
@@ -156,6 +151,17 @@ fn picture_name(word: &str) -> Result<&str, ArgumentError<'_>>
 }
 
 impl<'a> Arguments<'a> {
+    fn new(alloc: Global) -> Arguments<'a>
+        ensures { view result ≡ nothing_asked }
+    {
+        Arguments {
+            quiet: false,
+            check: false,
+            picture: None,
+            files: Vec::new(alloc),
+        }
+    }
+
     // With no file, standard input.
     fn with_input(mut self) -> Result<Request<'a>, ArgumentError<'a>>
         ensures { Answers result (playing (with_input (view self.entry))) }

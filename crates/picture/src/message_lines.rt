@@ -1,4 +1,4 @@
-// Messages of a picture: each at the height of the place that it says, from where it was sent to where it was heard or taken.
+// Messages of a picture: each at the place that it says, from where it was sent to where it was heard or taken.
 ghost use Rattle.picture.specs.MessageLines.{hearing_text, kind_class};
 ghost use Rattle.std.specs.Prelude.{◌≡◌, ◌++◌, OnOk, Some, string_bytes};
 

@@ -1,4 +1,4 @@
-// The page, its frame, and points inside the frame. Lengths on the page are in tenths of a pixel, to the right and downwards.
+// The page, its frame, and points inside the frame. Lengths are in tenths of a pixel, to the right and downwards.
 ghost use Rattle.picture.specs.Page.{Inside};
 ghost use Rattle.std.specs.Prelude.{◌≡◌};
 

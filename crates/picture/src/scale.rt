@@ -8,8 +8,8 @@ use crate::page::{FOOT, LEFT, Point, RIGHT, TOP};
 // How much of the height is left for places above the cut.
 const ABOVE: u64 = 600;
 
-// So many events go to the right. From the foot of the frame up go the places from the lowest to the cut, and above it, drawn
-// closer together, those from the cut to the highest, if that is not the same.
+// So many events go to the right. From the foot of the frame up go the places from the lowest to the cut, and above it,
+// drawn closer together, those from the cut to the highest, if that is not the same.
 #[derive(Clone, Copy, PartialEq, Eq, Debug)]
 pub struct Scale {
     pub events: u64,
@@ -19,8 +19,8 @@ pub struct Scale {
 }
 
 impl Scale {
-    // The scale of a picture that has to hold so much. A day without events is drawn as if one could be. Where the highest end lies much farther than any train came, the axis is
-    // cut above the trains.
+    // The scale of a picture that has to hold so much. A day without events is drawn as if one could be. Where the
+    // highest end lies much farther than any train came, the axis is cut above the trains.
     pub fn of(extent: Extent) -> Scale
         ensures { result ≡ scale_of extent }
     {
