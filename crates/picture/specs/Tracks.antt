@@ -1,5 +1,5 @@
 -- The lines of one train. Assumes nothing: these are definitions.
-use Rattle.std.specs.Prelude.{◌≡◌, ℕ, ◌-◌, List, [], ◌∷◌, ◌++◌, length, Some, slice_get}
+use Rattle.std.specs.Prelude.{◌≡◌, ℕ, ◌-◌, List, [], ◌∷◌, ◌++◌, length, None, Some, Option, slice_get}
 use Rattle.onboard.specs.declared.train.Train.{Train}
 use Rattle.picture.specs.declared.page.Point.{Point}
 use Rattle.picture.specs.declared.scale.Scale.{Scale}
@@ -14,12 +14,31 @@ pub record GoesOn (s : Scale) (events place : ℕ) (before after : List Point) :
   pub height : next.y ≡ height s place
   pub goes_on : after ≡ before ++ next ∷ []
 
--- the lines of a train go on to where it is in truth, and to what its unit knows of that
+-- the last point of a line, if it has one
+abbrev pub last_of : List Point → Option Point
+last_of points = slice_get points (length points - 1)
+
+-- where a line turns on its way to the next point: below or above that, level with the last point, if there is one
+abbrev pub turned : (next : Point) → (last : Option Point) → (turns : List Point) → Type 0
+turned next None turns = turns ≡ []
+turned next (Some last) turns = (turn : Point) × (turn.x ≡ next.x) × (turn.y ≡ last.y) × (turns ≡ turn ∷ [])
+
+-- a line goes on level, and then straight up or down to where a place is after so many events
+pub record StepsOn (s : Scale) (events place : ℕ) (before after : List Point) : Type 0 where
+  pub next : Point
+  pub across : next.x ≡ across s events
+  pub height : next.y ≡ height s place
+  pub turns : List Point
+  pub turned : turned next (last_of before) turns
+  pub goes_on : after ≡ (before ++ turns) ++ next ∷ []
+
+-- the lines of a train go on to where it is in truth, to what its unit knows of that, and to how far it may go
 pub record Followed (s : Scale) (events : ℕ) (train : Train) (before after : Lines) : Type 0 where
   pub front : GoesOn s events train.front before.fronts.items after.fronts.items
   pub rear : GoesOn s events (train.front - train.unit.length) before.rears.items after.rears.items
   pub low : GoesOn s events train.unit.low before.lows.items after.lows.items
   pub high : GoesOn s events train.unit.high before.highs.items after.highs.items
+  pub end : StepsOn s events train.unit.end before.ends.items after.ends.items
 
 -- the lines of each train go on to where it is; the track of a train has its number
 pub record AllFollowed (s : Scale) (events : ℕ) (trains : List Train) (before after : List Track) : Type 0 where

@@ -1,5 +1,5 @@
 // The lines of one train.
-ghost use Rattle.picture.specs.Tracks.{Followed, GoesOn, NoLines};
+ghost use Rattle.picture.specs.Tracks.{Followed, GoesOn, NoLines, StepsOn};
 ghost use Rattle.std.specs.Prelude.{OnOk};
 
 use crate::page::Point;
@@ -41,7 +41,7 @@ impl Lines {
         go_on(&mut self.rears, scale, events, rear)?;
         go_on(&mut self.lows, scale, events, train.unit.low)?;
         go_on(&mut self.highs, scale, events, train.unit.high)?;
-        step_to(&mut self.ends, scale.point(events, train.unit.end))
+        step_on(&mut self.ends, scale, events, train.unit.end)
     }
 }
 
@@ -103,7 +103,10 @@ fn go_on(line: &mut Vec<Point>, scale: Scale, events: u64, place: u64) -> Result
 }
 
 // Goes level to below or above the next point, and then straight to it.
-fn step_to(line: &mut Vec<Point>, next: Point) -> Result<(), AllocError> {
+fn step_on(line: &mut Vec<Point>, scale: Scale, events: u64, place: u64) -> Result<(), AllocError>
+    ensures { OnOk result (StepsOn scale events place line.old.items line.new.items) }
+{
+    let next = scale.point(events, place);
     if let Some(last) = line.last() {
         let turn = next.level_with(*last);
         line.push(turn)?;
