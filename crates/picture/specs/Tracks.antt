@@ -1,9 +1,10 @@
 -- The lines of one train. Assumes nothing: these are definitions.
-use Rattle.std.specs.Prelude.{◌≡◌, ℕ, ◌-◌, List, [], ◌∷◌, ◌++◌, length, None, Some, Option, slice_get}
+use Rattle.std.specs.Prelude.{◌≡◌, ℕ, Bool, true, false, ◌-◌, List, [], ◌∷◌, ◌++◌, length, None, Some, Option, slice_get}
 use Rattle.onboard.specs.declared.train.Train.{Train}
 use Rattle.picture.specs.declared.page.Point.{Point}
 use Rattle.picture.specs.declared.scale.Scale.{Scale}
 use Rattle.picture.specs.declared.track.Lines.{Lines}
+use Rattle.picture.specs.declared.track.Since.{Since}
 use Rattle.picture.specs.declared.track.Track.{Track}
 use Rattle.picture.specs.Scales.{across, height}
 
@@ -39,6 +40,17 @@ pub record Followed (s : Scale) (events : ℕ) (train : Train) (before after : L
   pub low : GoesOn s events train.unit.low before.lows.items after.lows.items
   pub high : GoesOn s events train.unit.high before.highs.items after.highs.items
   pub end : StepsOn s events train.unit.end before.ends.items after.ends.items
+
+-- where something happened since, a place is marked after so many events
+abbrev pub MarkedIf : (happened : Bool) (s : Scale) (events place : ℕ) (before after : List Point) → Type 0
+MarkedIf true s events place before after = GoesOn s events place before after
+MarkedIf false s events place before after = after ≡ before
+
+-- the lines of a train go on, and its front is marked where its unit braked since they last did, or it passed a mark
+pub record Drawn (s : Scale) (events : ℕ) (train : Train) (since : Since) (before after : Track) : Type 0 where
+  pub lines : Followed s events train before.lines after.lines
+  pub braked : MarkedIf since.braked s events train.front before.braked.items after.braked.items
+  pub marked : MarkedIf since.marked s events train.front before.marked.items after.marked.items
 
 -- the lines of each train go on to where it is; the track of a train has its number
 pub record AllFollowed (s : Scale) (events : ℕ) (trains : List Train) (before after : List Track) : Type 0 where

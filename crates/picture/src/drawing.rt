@@ -184,8 +184,13 @@ impl Drawing {
             self.events,
             trains,
         )?;
-        let foot = self.scale.point(self.events, 0);
-        mark_if(self.restarted, &mut self.restarts, foot)?;
+        mark_if(
+            self.restarted,
+            &mut self.restarts,
+            self.scale,
+            self.events,
+            0,
+        )?;
         self.restarted = false;
         self.messages.draw()
     }

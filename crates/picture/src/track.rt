@@ -1,5 +1,5 @@
 // The lines of one train.
-ghost use Rattle.picture.specs.Tracks.{Followed, GoesOn, NoLines, StepsOn};
+ghost use Rattle.picture.specs.Tracks.{Drawn, Followed, GoesOn, MarkedIf, NoLines, StepsOn};
 ghost use Rattle.std.specs.Prelude.{OnOk};
 
 use crate::page::Point;
@@ -79,18 +79,26 @@ impl Track {
         train: &Train,
         since: Since,
     ) -> Result<(), AllocError>
-        ensures { OnOk result (Followed scale events train.now self.old.lines self.new.lines) }
+        ensures { OnOk result (Drawn scale events train.now since self.old self.new) }
     {
         self.lines.draw(scale, events, train)?;
-        let front = scale.point(events, train.front);
-        mark_if(since.braked, &mut self.braked, front)?;
-        mark_if(since.marked, &mut self.marked, front)
+        mark_if(since.braked, &mut self.braked, scale, events, train.front)?;
+        mark_if(since.marked, &mut self.marked, scale, events, train.front)
     }
 }
 
-pub(crate) fn mark_if(holds: bool, marks: &mut Vec<Point>, at: Point) -> Result<(), AllocError> {
+// Puts a mark where a place is after so many events, if there is something to mark.
+pub(crate) fn mark_if(
+    holds: bool,
+    marks: &mut Vec<Point>,
+    scale: Scale,
+    events: u64,
+    place: u64,
+) -> Result<(), AllocError>
+    ensures { OnOk result (MarkedIf holds scale events place marks.old.items marks.new.items) }
+{
     if holds {
-        marks.push(at)?;
+        go_on(marks, scale, events, place)?;
     }
     Ok(())
 }

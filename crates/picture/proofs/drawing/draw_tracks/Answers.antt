@@ -4,7 +4,7 @@ use Rattle.picture.proofs.drawing.draw_tracks.Goals as goal
 
 pub loop-number-preserved : goal.loop-number-preserved
 loop-number-preserved c =
-    next_followed _ _ _ _ _ _ _ _ _ c.loop-number.invariant (omega (arith, c.loop-number-test.true, c.min-number-end.ensures, c.len.ensures, c.loop-number.invariant.count)) c.index_mut.ensures.value c.in_ok-draw.ensures
+    next_followed _ _ _ _ _ _ _ _ _ c.loop-number.invariant (omega (arith, c.loop-number-test.true, c.min-number-end.ensures, c.len.ensures, c.loop-number.invariant.count)) c.index_mut.ensures.value c.in_ok-draw.ensures.lines
 
 pub returns : goal.returns
 returns c = all_followed _ _ _ _ _ _ (omega (arith, c.loop-number-test.false, c.loop-number.auto.number-end, c.min-number-end.ensures, c.len.ensures)) c.loop-number.invariant
