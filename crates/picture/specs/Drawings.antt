@@ -1,6 +1,8 @@
 -- A drawing from one event to the next. Assumes nothing: these are definitions.
-use Rattle.std.specs.Prelude.{◌≡◌, ℕ, ◌+◌, ◌-◌, ◌*◌, ◌/◌, ◌^◌, ◌≢◌, min, max, List, length, None, Some, Option, slice_get, nat_lt, if◌then◌else◌}
+use Rattle.std.specs.Prelude.{◌≡◌, ℕ, ◌+◌, ◌-◌, ◌*◌, ◌/◌, ◌^◌, ◌≢◌, min, max, List, length, None, Some, Option, slice_get, nat_lt, if◌then◌else◌, true, set}
 use Rattle.onboard.specs.declared.train.Train.{Train}
+use Rattle.onboard.specs.declared.word.Word.{Word}
+use Rattle.onboard.specs.declared.word.Word.TheVariants.{Drive, Brake}
 use Rattle.picture.specs.declared.drawing.Drawing.{Drawing}
 use Rattle.picture.specs.declared.drawing.Nearest.{Nearest}
 use Rattle.picture.specs.declared.extent.Extent.{Extent}
@@ -9,7 +11,10 @@ use Rattle.picture.specs.declared.track.Lines.{Lines}
 use Rattle.picture.specs.declared.track.Track.{Track}
 use Rattle.picture.specs.Nearest.{SmallestGap, gap_between}
 use Rattle.picture.specs.Scales.{scale_of}
-use Rattle.picture.specs.Tracks.{AllFollowed, Followed, NoLines}
+use Rattle.picture.specs.Tracks.{AllDrawn, Followed, NoLines, NothingSince, since_at}
+use Rattle.picture.specs.declared.track.Since.{Since}
+use Rattle.safety.specs.declared.event.Event.{Event}
+use Rattle.safety.specs.declared.event.Event.TheVariants.{Tick, Mark, Report, Hear, Tell, Grant, Take, Restart}
 
 -- the smallest gap so far, after one look more: the gap that is the smallest now counts where it is smaller than all before
 abbrev pub nearest_of : Option Nearest → Option Gap → (events : ℕ) → Option Nearest
@@ -21,6 +26,20 @@ nearest_of (Some before) (Some gap) events = if nat_lt (gap_between gap) (gap_be
 abbrev pub column_of : Drawing → ℕ
 column_of drawing = min drawing.events drawing.scale.events * drawing.columns / max drawing.scale.events 1
 
+-- what happened to trains so far, after one event more: where a unit says to a tick that it brakes, its train braked,
+-- and the train of a mark passed one
+abbrev pub noted : Event → Option Word → List Since → List Since
+noted (Tick n wish speed) (Some Brake) since = set since n (record (since_at since n) { braked = true })
+noted (Tick n wish speed) (Some Drive) since = since
+noted (Tick n wish speed) None since = since
+noted (Mark n) word since = set since n (record (since_at since n) { marked = true })
+noted (Report n) word since = since
+noted (Hear controller message) word since = since
+noted (Tell controller n) word since = since
+noted (Grant controller n) word since = since
+noted (Take message) word since = since
+noted (Restart controller) word since = since
+
 -- what an event, its message and its ticks leave as it is
 pub record LinesKept (before after : Drawing) : Type 0 where
   pub events : after.events ≡ before.events
@@ -29,14 +48,17 @@ pub record LinesKept (before after : Drawing) : Type 0 where
   pub tracks : after.tracks.items ≡ before.tracks.items
   pub nearest : after.nearest ≡ before.nearest
 
--- a drawing after one event more, where the trains are so now: its lines go on to the trains, unless that is the same column of
--- the picture, and the smallest gap so far is that of now where that is smaller
-pub record OneMore (trains : List Train) (before after : Drawing) : Type 0 where
+-- a drawing after one event more, where the trains are so now: each is drawn on to where it is with what happened to it
+-- since, unless that is the same column of the picture, and the smallest gap so far is that of now where that is smaller
+pub record OneMore (event : Event) (word : Option Word) (trains : List Train) (before after : Drawing) : Type 0 where
   pub events : after.events ≡ min (before.events + 1) (2 ^ 64 - 1)
   pub scale : after.scale ≡ before.scale
   pub columns : after.columns ≡ before.columns
   pub kept : column_of after ≡ column_of before → after.tracks.items ≡ before.tracks.items
-  pub drawn : column_of after ≢ column_of before → AllFollowed after.scale after.events trains before.tracks.items after.tracks.items
+  pub since : column_of after ≡ column_of before → after.since.items ≡ noted event word before.since.items
+  pub drawn : column_of after ≢ column_of before →
+      AllDrawn after.scale after.events trains (noted event word before.since.items) after.since.items
+      before.tracks.items after.tracks.items
   pub gap : Option Gap
   pub smallest : SmallestGap trains gap
   pub nearest : after.nearest ≡ nearest_of before.nearest gap after.events
@@ -49,4 +71,6 @@ pub record Begun (extent : Extent) (trains : List Train) (drawing : Drawing) : T
   pub tracks : length drawing.tracks.items ≡ length trains
   pub lines : (n : ℕ) (train : Train) → slice_get trains n ≡ Some train →
       (track : Track) × (slice_get drawing.tracks.items n ≡ Some track) × ((none : Lines) × NoLines none × Followed drawing.scale 0 train none track.lines)
+  pub since : length drawing.since.items ≡ length trains
+  pub nothing : NothingSince drawing.since.items
   pub nearest : drawing.nearest ≡ None

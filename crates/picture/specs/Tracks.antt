@@ -1,5 +1,5 @@
 -- The lines of one train. Assumes nothing: these are definitions.
-use Rattle.std.specs.Prelude.{◌≡◌, ℕ, Bool, true, false, ◌-◌, List, [], ◌∷◌, ◌++◌, length, None, Some, Option, slice_get}
+use Rattle.std.specs.Prelude.{◌≡◌, ℕ, Bool, true, false, ◌-◌, ◌<◌, ◌≤◌, min, List, [], ◌∷◌, ◌++◌, length, None, Some, Option, get_or, set, slice_get}
 use Rattle.onboard.specs.declared.train.Train.{Train}
 use Rattle.picture.specs.declared.page.Point.{Point}
 use Rattle.picture.specs.declared.scale.Scale.{Scale}
@@ -52,11 +52,34 @@ pub record Drawn (s : Scale) (events : ℕ) (train : Train) (since : Since) (bef
   pub braked : MarkedIf since.braked s events train.front before.braked.items after.braked.items
   pub marked : MarkedIf since.marked s events train.front before.marked.items after.marked.items
 
--- the lines of each train go on to where it is; the track of a train has its number
-pub record AllFollowed (s : Scale) (events : ℕ) (trains : List Train) (before after : List Track) : Type 0 where
+-- neither braked nor passed a mark
+abbrev pub nothing : Since
+nothing = record { braked = false; marked = false }
+
+-- what happened to the train of that number since its lines went on; nothing where there is no such train
+abbrev pub since_at : List Since → ℕ → Since
+since_at since n = get_or since n nothing
+
+-- nothing happened to any train
+abbrev pub NothingSince : List Since → Type 0
+NothingSince since = (n : ℕ) → since_at since n ≡ nothing
+
+-- what happened to that train is drawn, and counts no more
+abbrev pub forgotten : List Since → ℕ → List Since
+forgotten since n = set since n nothing
+
+-- each train is drawn on to where it is with what happened to it since, and then nothing is left of that; the track of a train
+-- has its number, and what has no train or no track is as it was
+pub record AllDrawn (s : Scale) (events : ℕ) (trains : List Train) (since left : List Since) (before after : List Track) :
+    Type 0 where
   pub count : length after ≡ length before
-  pub each : (n : ℕ) (train : Train) (track : Track) → slice_get trains n ≡ Some train → slice_get before n ≡ Some track →
-      (next : Track) × (slice_get after n ≡ Some next) × Followed s events train track.lines next.lines
+  pub each : (n : ℕ) (train : Train) (track : Track) →
+      slice_get trains n ≡ Some train → slice_get before n ≡ Some track →
+      (next : Track) × (slice_get after n ≡ Some next) × Drawn s events train (since_at since n) track next
+  pub counted : length left ≡ length since
+  pub forgotten : (n : ℕ) → n < min (length before) (length trains) → since_at left n ≡ nothing
+  pub rest : (n : ℕ) → min (length before) (length trains) ≤ n →
+      (slice_get after n ≡ slice_get before n) × (since_at left n ≡ since_at since n)
 
 -- nothing of a train was drawn yet
 pub record NoLines (lines : Lines) : Type 0 where

@@ -1,6 +1,6 @@
 // A picture of a day while it is drawn, event after event.
-ghost use Rattle.picture.specs.Drawings.{Begun, LinesKept, OneMore, column_of, nearest_of};
-ghost use Rattle.picture.specs.Tracks.{AllFollowed, NoneDrawn};
+ghost use Rattle.picture.specs.Drawings.{Begun, LinesKept, OneMore, column_of, nearest_of, noted};
+ghost use Rattle.picture.specs.Tracks.{AllDrawn, NoneDrawn, forgotten, since_at};
 ghost use Rattle.std.specs.Prelude.{◌≡◌, IfOk, OnOk, length};
 
 use crate::extent::Extent;
@@ -96,7 +96,7 @@ impl Drawing {
         trains: &[Train],
         sent: &[[u8; MESSAGE_LENGTH]],
     ) -> Result<(), AllocError>
-        ensures { OnOk result (OneMore trains.now self.old self.new) }
+        ensures { OnOk result (OneMore event word trains.now self.old self.new) }
     {
         let before = self.column();
         self.events = self.events.saturating_add(1);
@@ -111,7 +111,8 @@ impl Drawing {
     }
 
     fn note(&mut self, event: Event, word: Option<Word>)
-        ensures { LinesKept self.old self.new }
+        ensures lines { LinesKept self.old self.new }
+        ensures since { self.new.since.items ≡ noted event word self.old.since.items }
     {
         match event {
             Event::Tick { train, .. } => {
@@ -139,7 +140,8 @@ impl Drawing {
 
     // What the event sent, if it did.
     fn note_sent(&mut self, event: Event, sent: &[[u8; MESSAGE_LENGTH]]) -> Result<(), AllocError>
-        ensures { OnOk result (LinesKept self.old self.new) }
+        ensures lines { OnOk result (LinesKept self.old self.new) }
+        ensures since { OnOk result (self.new.since.items ≡ self.old.since.items) }
     {
         if let (Some(kind), Some(bytes)) = (kind_sent(event), sent.get(self.messages.count())) {
             self.messages.send(self.scale, self.events, kind, bytes)?;
@@ -149,6 +151,7 @@ impl Drawing {
 
     fn note_moment(&mut self) -> Result<(), AllocError>
         ensures lines { OnOk result (LinesKept self.old self.new) }
+        ensures since { OnOk result (self.new.since.items ≡ self.old.since.items) }
         ensures ticks { self.new.ticks ≡ self.old.ticks }
     {
         if self.events.is_multiple_of(self.step) {
@@ -175,7 +178,7 @@ impl Drawing {
         ensures scale { self.new.scale ≡ self.old.scale }
         ensures columns { self.new.columns ≡ self.old.columns }
         ensures nearest { self.new.nearest ≡ self.old.nearest }
-        ensures tracks { OnOk result (AllFollowed self.old.scale self.old.events trains.now self.old.tracks.items self.new.tracks.items) }
+        ensures tracks { OnOk result (AllDrawn self.old.scale self.old.events trains.now self.old.since.items self.new.since.items self.old.tracks.items self.new.tracks.items) }
     {
         draw_tracks(
             &mut self.tracks,
@@ -197,7 +200,7 @@ impl Drawing {
 
     // Draws the trains of a day without events as they stand, from one edge to the other.
     pub fn stand(&mut self, trains: &[Train]) -> Result<(), AllocError>
-        ensures { OnOk result (AllFollowed self.old.scale 1 trains.now self.old.tracks.items self.new.tracks.items) }
+        ensures { OnOk result (AllDrawn self.old.scale 1 trains.now self.old.since.items self.new.since.items self.old.tracks.items self.new.tracks.items) }
     {
         draw_tracks(&mut self.tracks, &mut self.since, self.scale, 1, trains)
     }
@@ -220,7 +223,7 @@ fn draw_tracks(
     events: u64,
     trains: &[Train],
 ) -> Result<(), AllocError>
-    ensures { OnOk result (AllFollowed scale events trains.now tracks.old.items tracks.new.items) }
+    ensures { OnOk result (AllDrawn scale events trains.now since.old.items since.new.items tracks.old.items tracks.new.items) }
 {
     for number in 0..tracks.len().min(trains.len()) {
         let happened = take_since(since, number);
@@ -230,7 +233,10 @@ fn draw_tracks(
 }
 
 // What happened to a train since its lines were drawn on; from now on it is nothing.
-fn take_since(since: &mut Vec<Since>, number: usize) -> Since {
+fn take_since(since: &mut Vec<Since>, number: usize) -> Since
+    ensures happened { result ≡ since_at since.old.items number }
+    ensures left { since.new.items ≡ forgotten since.old.items number }
+{
     match since.get_mut(number) {
         Some(since) => {
             let happened = *since;

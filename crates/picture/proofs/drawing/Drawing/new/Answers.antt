@@ -1,9 +1,14 @@
-use Rattle.std.proofs.Common.{◌∙◌}
-use Rattle.picture.proofs.Follows.{begun}
+use Rattle.std.proofs.Common.{◌≡◌, ◌∙◌, replicate, length, rules, sym, subst}
+use Rattle.picture.specs.Tracks.{NothingSince, nothing}
+use Rattle.picture.proofs.Follows.{begun, nothing_yet}
 use Rattle.picture.proofs.drawing.Drawing.new.Goals as goal
 
 pub returns : goal.returns
 returns c =
+    let first : c.in_ok-vec.field-0.items ≡ replicate (length c.args.trains.now) nothing = c.in_ok-vec.ensures.items_if_clones_equal (λ y e. e) in
+    let noted : c.note_moment.new.self.since.items ≡ replicate (length c.args.trains.now) nothing = search (rules, c.in_ok-note_moment.ensures.since, first) in
+    let none : NothingSince c.note_moment.new.self.since.items = subst NothingSince (sym noted) (nothing_yet (length c.args.trains.now)) in
+    let count : length c.note_moment.new.self.since.items ≡ length c.args.trains.now = search (rules, noted) in
     let kept = c.in_ok-note_moment.ensures.lines in
     begun _ _ _ c.note_moment.new.self _ c.in_ok-new_tracks.ensures (kept.scale ∙ c.of.ensures) kept.events c.note_moment.ensures.ticks kept.tracks kept.nearest
-    c.draw.ensures.scale c.draw.ensures.events c.draw.ensures.ticks c.draw.ensures.nearest c.in_ok-draw.ensures.tracks
+    c.draw.ensures.scale c.draw.ensures.events c.draw.ensures.ticks c.draw.ensures.nearest c.in_ok-draw.ensures.tracks count none
