@@ -1,5 +1,5 @@
 -- The tracks that were drawn on so far, and one more.
-use Rattle.std.proofs.Common.{◌≡◌, ℕ, zero, suc, [], ◌∷◌, ◌++◌, length-append, ◌+◌, ◌<◌, ◌≤◌, List, length, min, None, Some, slice_get, get_or, set, ◌≢◌, refl, sym, ap, ◌∙◌, subst, arith, replicate}
+use Rattle.std.proofs.Common.{◌≡◌, false, ℕ, zero, suc, [], ◌∷◌, ◌++◌, length-append, ◌+◌, ◌<◌, ◌≤◌, List, length, min, None, Some, slice_get, get_or, set, ◌≢◌, refl, sym, ap, ◌∙◌, subst, arith, replicate}
 use Rattle.std.proofs.Math.Logic.{inl, inr}
 use native.Mathlib.Decide.{dec_le}
 use Rattle.std.proofs.lemmas.Option.{slice_get-get_or, slice_get_cases, slice_get_within, get_or_from_slice_get}
@@ -130,8 +130,9 @@ pub begun : (extent : Extent) (trains : List Train) (before : List Track) (noted
     noted.scale ≡ scale_of extent → noted.events ≡ 0 → noted.ticks ≡ 0 → noted.tracks.items ≡ before → noted.nearest ≡ None →
     after.scale ≡ noted.scale → after.events ≡ noted.events → after.ticks ≡ noted.ticks → after.nearest ≡ noted.nearest →
     AllDrawn noted.scale noted.events trains noted.since.items after.since.items noted.tracks.items after.tracks.items →
-    length noted.since.items ≡ length trains → NothingSince noted.since.items → Begun extent trains after
-begun extent trains before noted after none scale events ticks tracks nearest same_scale same_events same_ticks same_nearest all since nothing =
+    length noted.since.items ≡ length trains → NothingSince noted.since.items →
+    after.restarts.items ≡ [] → after.restarted ≡ false → Begun extent trains after
+begun extent trains before noted after none scale events ticks tracks nearest same_scale same_events same_ticks same_nearest all since nothing restarts restarted =
     let drawn : AllDrawn after.scale 0 trains noted.since.items after.since.items before after.tracks.items = rw (sym tracks, same_scale, sym events) all in
     record {
       scale = same_scale ∙ scale;
@@ -141,5 +142,7 @@ begun extent trains before noted after none scale events ticks tracks nearest sa
       lines = first_drawn after.scale trains noted.since.items after.since.items before after.tracks.items none drawn;
       since = all.counted ∙ since;
       nothing = still_nothing _ _ _ _ _ _ _ all nothing;
+      restarts = restarts;
+      restarted = restarted;
       nearest = same_nearest ∙ nearest;
     }

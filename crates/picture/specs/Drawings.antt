@@ -1,5 +1,5 @@
 -- A drawing from one event to the next. Assumes nothing: these are definitions.
-use Rattle.std.specs.Prelude.{◌≡◌, ℕ, ◌+◌, ◌-◌, ◌*◌, ◌/◌, ◌^◌, ◌≢◌, min, max, List, length, None, Some, Option, slice_get, nat_lt, if◌then◌else◌, true, set}
+use Rattle.std.specs.Prelude.{◌≡◌, ℕ, ◌+◌, ◌-◌, ◌*◌, ◌/◌, ◌^◌, ◌≢◌, min, max, List, length, None, Some, Option, slice_get, nat_lt, if◌then◌else◌, true, set, Bool, false, []}
 use Rattle.onboard.specs.declared.train.Train.{Train}
 use Rattle.onboard.specs.declared.word.Word.{Word}
 use Rattle.onboard.specs.declared.word.Word.TheVariants.{Drive, Brake}
@@ -8,11 +8,11 @@ use Rattle.picture.specs.declared.drawing.Nearest.{Nearest}
 use Rattle.picture.specs.declared.extent.Extent.{Extent}
 use Rattle.picture.specs.declared.nearest.Gap.{Gap}
 use Rattle.picture.specs.declared.track.Lines.{Lines}
+use Rattle.picture.specs.declared.track.Since.{Since}
 use Rattle.picture.specs.declared.track.Track.{Track}
 use Rattle.picture.specs.Nearest.{SmallestGap, gap_between}
 use Rattle.picture.specs.Scales.{scale_of}
-use Rattle.picture.specs.Tracks.{AllDrawn, Followed, NoLines, NothingSince, since_at}
-use Rattle.picture.specs.declared.track.Since.{Since}
+use Rattle.picture.specs.Tracks.{AllDrawn, Followed, MarkedIf, NoLines, NothingSince, since_at}
 use Rattle.safety.specs.declared.event.Event.{Event}
 use Rattle.safety.specs.declared.event.Event.TheVariants.{Tick, Mark, Report, Hear, Tell, Grant, Take, Restart}
 
@@ -40,25 +40,55 @@ noted (Grant controller n) word since = since
 noted (Take message) word since = since
 noted (Restart controller) word since = since
 
+-- whether a controller restarted so far, after one event more
+abbrev pub restarted : Event → (before : Bool) → Bool
+restarted (Tick n wish speed) before = before
+restarted (Mark n) before = before
+restarted (Report n) before = before
+restarted (Hear controller message) before = before
+restarted (Tell controller n) before = before
+restarted (Grant controller n) before = before
+restarted (Take message) before = before
+restarted (Restart controller) before = true
+
 -- what an event, its message and its ticks leave as it is
 pub record LinesKept (before after : Drawing) : Type 0 where
   pub events : after.events ≡ before.events
   pub scale : after.scale ≡ before.scale
   pub columns : after.columns ≡ before.columns
   pub tracks : after.tracks.items ≡ before.tracks.items
+  pub restarts : after.restarts.items ≡ before.restarts.items
   pub nearest : after.nearest ≡ before.nearest
 
--- a drawing after one event more, where the trains are so now: each is drawn on to where it is with what happened to it
--- since, unless that is the same column of the picture, and the smallest gap so far is that of now where that is smaller
+-- and what a message and its ticks leave besides
+pub record SinceKept (before after : Drawing) : Type 0 where
+  pub since : after.since.items ≡ before.since.items
+  pub restarted : after.restarted ≡ before.restarted
+
+-- one event more in the same column of the picture: what it did is noted, and nothing drawn
+pub record SameColumn (event : Event) (word : Option Word) (before after : Drawing) : Type 0 where
+  pub tracks : after.tracks.items ≡ before.tracks.items
+  pub since : after.since.items ≡ noted event word before.since.items
+  pub restarts : after.restarts.items ≡ before.restarts.items
+  pub restarted : after.restarted ≡ restarted event before.restarted
+
+-- one event more, in another column: each train is drawn on to where it is with what happened to it since, and the foot is
+-- marked where a controller restarted since
+pub record NextColumn (event : Event) (word : Option Word) (trains : List Train) (before after : Drawing) : Type 0 where
+  pub tracks : AllDrawn after.scale after.events trains (noted event word before.since.items) after.since.items
+      before.tracks.items after.tracks.items
+  pub restarts : MarkedIf (restarted event before.restarted) after.scale after.events 0
+      before.restarts.items after.restarts.items
+  pub restarted : after.restarted ≡ false
+
+-- a drawing after one event more, where the trains are so now: it is drawn on, unless that is the same column of the picture,
+-- and the smallest gap so far is that of now where that is smaller
 pub record OneMore (event : Event) (word : Option Word) (trains : List Train) (before after : Drawing) : Type 0 where
   pub events : after.events ≡ min (before.events + 1) (2 ^ 64 - 1)
   pub scale : after.scale ≡ before.scale
   pub columns : after.columns ≡ before.columns
-  pub kept : column_of after ≡ column_of before → after.tracks.items ≡ before.tracks.items
-  pub since : column_of after ≡ column_of before → after.since.items ≡ noted event word before.since.items
-  pub drawn : column_of after ≢ column_of before →
-      AllDrawn after.scale after.events trains (noted event word before.since.items) after.since.items
-      before.tracks.items after.tracks.items
+  pub same : column_of after ≡ column_of before → SameColumn event word before after
+  pub next : column_of after ≢ column_of before → NextColumn event word trains before after
   pub gap : Option Gap
   pub smallest : SmallestGap trains gap
   pub nearest : after.nearest ≡ nearest_of before.nearest gap after.events
@@ -73,4 +103,6 @@ pub record Begun (extent : Extent) (trains : List Train) (drawing : Drawing) : T
       (track : Track) × (slice_get drawing.tracks.items n ≡ Some track) × ((none : Lines) × NoLines none × Followed drawing.scale 0 train none track.lines)
   pub since : length drawing.since.items ≡ length trains
   pub nothing : NothingSince drawing.since.items
+  pub restarts : drawing.restarts.items ≡ []
+  pub restarted : drawing.restarted ≡ false
   pub nearest : drawing.nearest ≡ None

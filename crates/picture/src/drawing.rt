@@ -1,7 +1,7 @@
 // A picture of a day while it is drawn, event after event.
-ghost use Rattle.picture.specs.Drawings.{Begun, LinesKept, OneMore, column_of, nearest_of, noted};
-ghost use Rattle.picture.specs.Tracks.{AllDrawn, NoneDrawn, forgotten, since_at};
-ghost use Rattle.std.specs.Prelude.{◌≡◌, IfOk, OnOk, length};
+ghost use Rattle.picture.specs.Drawings.{Begun, LinesKept, OneMore, column_of, nearest_of, noted, SinceKept, restarted};
+ghost use Rattle.picture.specs.Tracks.{AllDrawn, NoneDrawn, forgotten, since_at, MarkedIf};
+ghost use Rattle.std.specs.Prelude.{◌≡◌, IfOk, OnOk, length, false};
 
 use crate::extent::Extent;
 use crate::grid::round_step;
@@ -113,6 +113,7 @@ impl Drawing {
     fn note(&mut self, event: Event, word: Option<Word>)
         ensures lines { LinesKept self.old self.new }
         ensures since { self.new.since.items ≡ noted event word self.old.since.items }
+        ensures restarted { self.new.restarted ≡ restarted event self.old.restarted }
     {
         match event {
             Event::Tick { train, .. } => {
@@ -141,7 +142,7 @@ impl Drawing {
     // What the event sent, if it did.
     fn note_sent(&mut self, event: Event, sent: &[[u8; MESSAGE_LENGTH]]) -> Result<(), AllocError>
         ensures lines { OnOk result (LinesKept self.old self.new) }
-        ensures since { OnOk result (self.new.since.items ≡ self.old.since.items) }
+        ensures since { OnOk result (SinceKept self.old self.new) }
     {
         if let (Some(kind), Some(bytes)) = (kind_sent(event), sent.get(self.messages.count())) {
             self.messages.send(self.scale, self.events, kind, bytes)?;
@@ -151,7 +152,7 @@ impl Drawing {
 
     fn note_moment(&mut self) -> Result<(), AllocError>
         ensures lines { OnOk result (LinesKept self.old self.new) }
-        ensures since { OnOk result (self.new.since.items ≡ self.old.since.items) }
+        ensures since { OnOk result (SinceKept self.old self.new) }
         ensures ticks { self.new.ticks ≡ self.old.ticks }
     {
         if self.events.is_multiple_of(self.step) {
@@ -179,6 +180,8 @@ impl Drawing {
         ensures columns { self.new.columns ≡ self.old.columns }
         ensures nearest { self.new.nearest ≡ self.old.nearest }
         ensures tracks { OnOk result (AllDrawn self.old.scale self.old.events trains.now self.old.since.items self.new.since.items self.old.tracks.items self.new.tracks.items) }
+        ensures restarts { OnOk result (MarkedIf self.old.restarted self.old.scale self.old.events 0 self.old.restarts.items self.new.restarts.items) }
+        ensures restarted { OnOk result (self.new.restarted ≡ false) }
     {
         draw_tracks(
             &mut self.tracks,
