@@ -51,7 +51,18 @@ restarted (Grant controller n) before = before
 restarted (Take message) before = before
 restarted (Restart controller) before = true
 
--- what an event, its message and its ticks leave as it is
+-- how many ticks there were so far, after one event more
+abbrev pub ticks_after : Event → (before : ℕ) → ℕ
+ticks_after (Tick n wish speed) before = min (before + 1) (2 ^ 64 - 1)
+ticks_after (Mark n) before = before
+ticks_after (Report n) before = before
+ticks_after (Hear controller message) before = before
+ticks_after (Tell controller n) before = before
+ticks_after (Grant controller n) before = before
+ticks_after (Take message) before = before
+ticks_after (Restart controller) before = before
+
+-- what noting an event, its message or a moment leaves as it is
 pub record LinesKept (before after : Drawing) : Type 0 where
   pub events : after.events ≡ before.events
   pub scale : after.scale ≡ before.scale
@@ -60,10 +71,11 @@ pub record LinesKept (before after : Drawing) : Type 0 where
   pub restarts : after.restarts.items ≡ before.restarts.items
   pub nearest : after.nearest ≡ before.nearest
 
--- and what a message and its ticks leave besides
+-- and what noting a message or a moment leaves besides
 pub record SinceKept (before after : Drawing) : Type 0 where
   pub since : after.since.items ≡ before.since.items
   pub restarted : after.restarted ≡ before.restarted
+  pub ticks : after.ticks ≡ before.ticks
 
 -- one event more in the same column of the picture: what it did is noted, and nothing drawn
 pub record SameColumn (event : Event) (word : Option Word) (before after : Drawing) : Type 0 where
@@ -85,6 +97,7 @@ pub record NextColumn (event : Event) (word : Option Word) (trains : List Train)
 -- and the smallest gap so far is that of now where that is smaller
 pub record OneMore (event : Event) (word : Option Word) (trains : List Train) (before after : Drawing) : Type 0 where
   pub events : after.events ≡ min (before.events + 1) (2 ^ 64 - 1)
+  pub ticks : after.ticks ≡ ticks_after event before.ticks
   pub scale : after.scale ≡ before.scale
   pub columns : after.columns ≡ before.columns
   pub same : column_of after ≡ column_of before → SameColumn event word before after

@@ -1,5 +1,5 @@
 // A picture of a day while it is drawn, event after event.
-ghost use Rattle.picture.specs.Drawings.{Begun, LinesKept, OneMore, column_of, nearest_of, noted, SinceKept, restarted};
+ghost use Rattle.picture.specs.Drawings.{Begun, LinesKept, OneMore, column_of, nearest_of, noted, SinceKept, restarted, ticks_after};
 ghost use Rattle.picture.specs.Tracks.{AllDrawn, NoneDrawn, forgotten, since_at, MarkedIf};
 ghost use Rattle.std.specs.Prelude.{◌≡◌, IfOk, OnOk, length, false};
 
@@ -114,6 +114,7 @@ impl Drawing {
         ensures lines { LinesKept self.old self.new }
         ensures since { self.new.since.items ≡ noted event word self.old.since.items }
         ensures restarted { self.new.restarted ≡ restarted event self.old.restarted }
+        ensures ticks { self.new.ticks ≡ ticks_after event self.old.ticks }
     {
         match event {
             Event::Tick { train, .. } => {
@@ -153,7 +154,6 @@ impl Drawing {
     fn note_moment(&mut self) -> Result<(), AllocError>
         ensures lines { OnOk result (LinesKept self.old self.new) }
         ensures since { OnOk result (SinceKept self.old self.new) }
-        ensures ticks { self.new.ticks ≡ self.old.ticks }
     {
         if self.events.is_multiple_of(self.step) {
             self.moments.push(Moment {
