@@ -10,6 +10,11 @@ use Rattle.picture.specs.declared.nearest.Gap.{Gap}
 use Rattle.picture.specs.declared.track.Lines.{Lines}
 use Rattle.picture.specs.declared.track.Since.{Since}
 use Rattle.picture.specs.declared.track.Track.{Track}
+use Rattle.picture.specs.declared.messages.Messages.{Messages}
+use Rattle.picture.specs.declared.scale.Scale.{Scale}
+use Rattle.picture.specs.declared.sending.Kind.{Kind}
+use Rattle.picture.specs.declared.sending.Kind.TheVariants as kind
+use Rattle.picture.specs.Messages.{ColumnShown, MessagesKept, SentMore, ShownKept}
 use Rattle.picture.specs.Nearest.{SmallestGap, gap_between}
 use Rattle.picture.specs.Scales.{scale_of}
 use Rattle.picture.specs.Tracks.{AllDrawn, Followed, MarkedIf, NoLines, NothingSince, since_at}
@@ -62,6 +67,42 @@ ticks_after (Grant controller n) before = before
 ticks_after (Take message) before = before
 ticks_after (Restart controller) before = before
 
+-- what an event sends, if it does
+abbrev pub kind_sent : Event → Option Kind
+kind_sent (Tick n wish speed) = None
+kind_sent (Mark n) = None
+kind_sent (Report n) = Some kind.Report
+kind_sent (Hear controller message) = None
+kind_sent (Tell controller n) = Some kind.Words
+kind_sent (Grant controller n) = Some kind.Grant
+kind_sent (Take message) = None
+kind_sent (Restart controller) = None
+
+-- what is heard or taken leaves what was sent, and what is drawn of the messages so far
+pub record Heard (before after : Messages) : Type 0 where
+  pub sent : after.sent.items ≡ before.sent.items
+  pub shown : ShownKept before after
+
+-- an event sends, after so many events, where this is all that was ever sent: if that has a message past those that were
+-- there before, it is there now; where it has none, or the event does not send, all is as it was
+pub record Sent (event : Event) (s : Scale) (events : ℕ) (all : List (List ℕ)) (before after : Messages) : Type 0 where
+  pub sent : (k : Kind) (bytes : List ℕ) → kind_sent event ≡ Some k →
+      slice_get all (length before.sent.items) ≡ Some bytes → SentMore s events k bytes before after
+  pub not_sent : kind_sent event ≡ None → MessagesKept before after
+  pub none_past : slice_get all (length before.sent.items) ≡ None → MessagesKept before after
+  pub heard : after.heard ≡ before.heard
+  pub shown : ShownKept before after
+
+-- the messages after one event more, where this is all that was ever sent: first the event hears, then it sends, and then,
+-- where it comes to another column of the picture, they are shown
+pub record MessagesMore (event : Event) (all : List (List ℕ)) (before after : Drawing) : Type 0 where
+  pub heard : Messages
+  pub hears : Heard before.messages heard
+  pub sent : Messages
+  pub sends : Sent event before.scale after.events all heard sent
+  pub same : column_of after ≡ column_of before → MessagesKept sent after.messages
+  pub next : column_of after ≢ column_of before → ColumnShown sent after.messages
+
 -- what noting an event, its message or a moment leaves as it is
 pub record LinesKept (before after : Drawing) : Type 0 where
   pub events : after.events ≡ before.events
@@ -93,15 +134,17 @@ pub record NextColumn (event : Event) (word : Option Word) (trains : List Train)
       before.restarts.items after.restarts.items
   pub restarted : after.restarted ≡ false
 
--- a drawing after one event more, where the trains are so now: it is drawn on, unless that is the same column of the picture,
--- and the smallest gap so far is that of now where that is smaller
-pub record OneMore (event : Event) (word : Option Word) (trains : List Train) (before after : Drawing) : Type 0 where
+-- a drawing after one event more, where the trains are so now, and this is all that was ever sent: it is drawn on, unless
+-- that is the same column of the picture, and the smallest gap so far is that of now where that is smaller
+pub record OneMore (event : Event) (word : Option Word) (trains : List Train) (all : List (List ℕ)) (before after : Drawing)
+    : Type 0 where
   pub events : after.events ≡ min (before.events + 1) (2 ^ 64 - 1)
   pub ticks : after.ticks ≡ ticks_after event before.ticks
   pub scale : after.scale ≡ before.scale
   pub columns : after.columns ≡ before.columns
   pub same : column_of after ≡ column_of before → SameColumn event word before after
   pub next : column_of after ≢ column_of before → NextColumn event word trains before after
+  pub messages : MessagesMore event all before after
   pub gap : Option Gap
   pub smallest : SmallestGap trains gap
   pub nearest : after.nearest ≡ nearest_of before.nearest gap after.events

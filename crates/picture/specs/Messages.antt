@@ -78,9 +78,17 @@ pub record ColumnShown (before after : Messages) : Type 0 where
   pub sendings : after.sendings.items ≡ before.sendings.items ++ (one_or_none before.column.report_sent ++ (one_or_none before.column.words_sent ++ one_or_none before.column.grant_sent))
   pub hearings : after.hearings.items ≡ before.hearings.items ++ (one_or_none before.column.report_heard ++ (one_or_none before.column.words_heard ++ one_or_none before.column.grant_heard))
   pub sent : after.sent.items ≡ before.sent.items
+  pub heard : after.heard ≡ before.heard
   pub column : after.column ≡ empty
 
 -- what is drawn of the messages so far is as it was
 pub record ShownKept (before after : Messages) : Type 0 where
   pub sendings : after.sendings.items ≡ before.sendings.items
   pub hearings : after.hearings.items ≡ before.hearings.items
+
+-- all of the messages is as it was
+pub record MessagesKept (before after : Messages) : Type 0 where
+  pub sent : after.sent.items ≡ before.sent.items
+  pub shown : ShownKept before after
+  pub heard : after.heard ≡ before.heard
+  pub column : after.column ≡ before.column

@@ -1,5 +1,6 @@
 // A picture of a day while it is drawn, event after event.
-ghost use Rattle.picture.specs.Drawings.{Begun, LinesKept, OneMore, column_of, nearest_of, noted, SinceKept, restarted, ticks_after};
+ghost use Rattle.picture.specs.Drawings.{Begun, Heard, LinesKept, OneMore, Sent, SinceKept, column_of, kind_sent, nearest_of, noted, restarted, ticks_after};
+ghost use Rattle.picture.specs.Messages.{ColumnShown};
 ghost use Rattle.picture.specs.Tracks.{AllDrawn, NoneDrawn, forgotten, since_at, MarkedIf};
 ghost use Rattle.std.specs.Prelude.{◌≡◌, IfOk, OnOk, length, false};
 
@@ -96,7 +97,7 @@ impl Drawing {
         trains: &[Train],
         sent: &[[u8; MESSAGE_LENGTH]],
     ) -> Result<(), AllocError>
-        ensures { OnOk result (OneMore event word trains.now self.old self.new) }
+        ensures { OnOk result (OneMore event word trains.now sent.now self.old self.new) }
     {
         let before = self.column();
         self.events = self.events.saturating_add(1);
@@ -107,14 +108,17 @@ impl Drawing {
         if self.column() == before {
             return Ok(());
         }
-        self.draw(trains)
+        self.draw(trains)?;
+        Ok(())
     }
 
+    // What the event did, but for what it sent.
     fn note(&mut self, event: Event, word: Option<Word>)
         ensures lines { LinesKept self.old self.new }
         ensures since { self.new.since.items ≡ noted event word self.old.since.items }
         ensures restarted { self.new.restarted ≡ restarted event self.old.restarted }
         ensures ticks { self.new.ticks ≡ ticks_after event self.old.ticks }
+        ensures heard { Heard self.old.messages self.new.messages }
     {
         match event {
             Event::Tick { train, .. } => {
@@ -144,16 +148,21 @@ impl Drawing {
     fn note_sent(&mut self, event: Event, sent: &[[u8; MESSAGE_LENGTH]]) -> Result<(), AllocError>
         ensures lines { OnOk result (LinesKept self.old self.new) }
         ensures since { OnOk result (SinceKept self.old self.new) }
+        ensures sent { OnOk result (Sent event self.old.scale self.old.events sent.now self.old.messages self.new.messages) }
     {
-        if let (Some(kind), Some(bytes)) = (kind_sent(event), sent.get(self.messages.count())) {
-            self.messages.send(self.scale, self.events, kind, bytes)?;
-        }
-        Ok(())
+        let Some(kind) = kind_sent(event) else {
+            return Ok(());
+        };
+        let Some(bytes) = sent.get(self.messages.count()) else {
+            return Ok(());
+        };
+        self.messages.send(self.scale, self.events, kind, bytes)
     }
 
     fn note_moment(&mut self) -> Result<(), AllocError>
         ensures lines { OnOk result (LinesKept self.old self.new) }
         ensures since { OnOk result (SinceKept self.old self.new) }
+        ensures messages { self.new.messages ≡ self.old.messages }
     {
         if self.events.is_multiple_of(self.step) {
             self.moments.push(Moment {
@@ -182,6 +191,7 @@ impl Drawing {
         ensures tracks { OnOk result (AllDrawn self.old.scale self.old.events trains.now self.old.since.items self.new.since.items self.old.tracks.items self.new.tracks.items) }
         ensures restarts { OnOk result (MarkedIf self.old.restarted self.old.scale self.old.events 0 self.old.restarts.items self.new.restarts.items) }
         ensures restarted { OnOk result (self.new.restarted ≡ false) }
+        ensures messages { OnOk result (ColumnShown self.old.messages self.new.messages) }
     {
         draw_tracks(
             &mut self.tracks,
@@ -264,7 +274,9 @@ fn nearer(nearest: Option<Nearest>, gap: Option<Gap>, events: u64) -> Option<Nea
 }
 
 // What an event sends, if it does.
-fn kind_sent(event: Event) -> Option<Kind> {
+fn kind_sent(event: Event) -> Option<Kind>
+    ensures { result ≡ kind_sent event }
+{
     match event {
         Event::Report { .. } => Some(Kind::Report),
         Event::Tell { .. } => Some(Kind::Words),

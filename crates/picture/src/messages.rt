@@ -70,6 +70,7 @@ impl Messages {
         bytes: &[u8; MESSAGE_LENGTH],
     ) -> Result<(), AllocError>
         ensures sent { OnOk result (SentMore scale events kind bytes.now self.old self.new) }
+        ensures heard { self.new.heard ≡ self.old.heard }
         ensures shown { ShownKept self.old self.new }
     {
         let place = place_said(bytes);
