@@ -14,7 +14,8 @@ use Rattle.picture.specs.declared.messages.Messages.{Messages}
 use Rattle.picture.specs.declared.scale.Scale.{Scale}
 use Rattle.picture.specs.declared.sending.Kind.{Kind}
 use Rattle.picture.specs.declared.sending.Kind.TheVariants as kind
-use Rattle.picture.specs.Messages.{ColumnShown, MessagesKept, SentMore, ShownKept}
+use Rattle.picture.specs.declared.sending.Sending.{Sending}
+use Rattle.picture.specs.Messages.{ColumnShown, HeardMore, MessagesKept, SentMore, ShownKept}
 use Rattle.picture.specs.Nearest.{SmallestGap, gap_between}
 use Rattle.picture.specs.Scales.{scale_of}
 use Rattle.picture.specs.Tracks.{AllDrawn, Followed, MarkedIf, NoLines, NothingSince, since_at}
@@ -78,8 +79,33 @@ kind_sent (Grant controller n) = Some kind.Grant
 kind_sent (Take message) = None
 kind_sent (Restart controller) = None
 
--- what is heard or taken leaves what was sent, and what is drawn of the messages so far
-pub record Heard (before after : Messages) : Type 0 where
+-- the message that an event hears or takes, if it does, of those that were sent
+abbrev pub message_of : Event → (sent : List Sending) → Option Sending
+message_of (Tick n wish speed) sent = None
+message_of (Mark n) sent = None
+message_of (Report n) sent = None
+message_of (Hear controller message) sent = slice_get sent message
+message_of (Tell controller n) sent = None
+message_of (Grant controller n) sent = None
+message_of (Take message) sent = slice_get sent message
+message_of (Restart controller) sent = None
+
+-- whether an event takes its message, and does not hear it
+abbrev pub is_taken : Event → Bool
+is_taken (Tick n wish speed) = false
+is_taken (Mark n) = false
+is_taken (Report n) = false
+is_taken (Hear controller message) = false
+is_taken (Tell controller n) = false
+is_taken (Grant controller n) = false
+is_taken (Take message) = true
+is_taken (Restart controller) = false
+
+-- an event hears or takes its message, after so many events: where that was sent, one more was heard or taken, and else none
+pub record Heard (event : Event) (s : Scale) (events : ℕ) (before after : Messages) : Type 0 where
+  pub heard : (message : Sending) → message_of event before.sent.items ≡ Some message →
+      HeardMore s events message (is_taken event) before after
+  pub not_heard : message_of event before.sent.items ≡ None → (after.column ≡ before.column) × (after.heard ≡ before.heard)
   pub sent : after.sent.items ≡ before.sent.items
   pub shown : ShownKept before after
 
@@ -97,7 +123,7 @@ pub record Sent (event : Event) (s : Scale) (events : ℕ) (all : List (List ℕ
 -- where it comes to another column of the picture, they are shown
 pub record MessagesMore (event : Event) (all : List (List ℕ)) (before after : Drawing) : Type 0 where
   pub heard : Messages
-  pub hears : Heard before.messages heard
+  pub hears : Heard event before.scale after.events before.messages heard
   pub sent : Messages
   pub sends : Sent event before.scale after.events all heard sent
   pub same : column_of after ≡ column_of before → MessagesKept sent after.messages

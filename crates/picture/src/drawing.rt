@@ -118,7 +118,7 @@ impl Drawing {
         ensures since { self.new.since.items ≡ noted event word self.old.since.items }
         ensures restarted { self.new.restarted ≡ restarted event self.old.restarted }
         ensures ticks { self.new.ticks ≡ ticks_after event self.old.ticks }
-        ensures heard { Heard self.old.messages self.new.messages }
+        ensures heard { Heard event self.old.scale self.old.events self.old.messages self.new.messages }
     {
         match event {
             Event::Tick { train, .. } => {
