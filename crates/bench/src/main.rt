@@ -58,7 +58,8 @@ how large it is and what gaps there were, and at the end of all. Old and repeate
   --quiet          tells of all days together alone
   --write          prints the scenario of the day, and does not play it
 
-The status is 0, or 1 where a file is refused or cannot be read, or 2 where an argument is wrong.";
+The status is 0, or 1 where a file is refused or cannot be read, if it is not checked, or where a picture cannot be
+written, or 2 where an argument is wrong.";
 
 const VERSION: &str = "bench 1";
 
@@ -128,11 +129,8 @@ fn draw_text(
     if picture == "-" {
         print!(rt; "{}", drawn.svg)?;
     } else if let Err(error) = fs::write(rt, picture, drawn.svg.as_bytes()) {
-        return tell(
-            rt,
-            arguments,
-            format_args!("{picture}: cannot be written: {error}"),
-        );
+        eprintln!(rt; "bench: {picture}: cannot be written: {error}")?;
+        return Ok(false);
     }
     match drawn.outcome {
         Ok(_) if picture == "-" => {}
@@ -169,13 +167,14 @@ fn tell_refused(
     }
 }
 
-// Why a file is not taken: on standard output where files are checked, and else on standard error.
+// Why a file is not taken: on standard output where files are checked, if no picture goes there, and else on standard
+// error.
 fn tell(
     rt: &HostRuntime,
     arguments: &Arguments,
     why: impl fmt::Display + Drop,
 ) -> io::Result<bool> {
-    if arguments.check {
+    if arguments.check && arguments.picture != Some("-") {
         println!(rt; "{why}")?;
         Ok(true)
     } else {

@@ -10,7 +10,9 @@ use Rattle.picture.specs.declared.extent.Extent.{Extent}
 use Rattle.picture.specs.declared.scale.Scale.{Scale}
 use Rattle.picture.specs.declared.track.Lines.{Lines}
 use Rattle.picture.specs.declared.track.Track.{Track}
-use Rattle.picture.specs.Drawings.{Begun}
+use Rattle.picture.specs.declared.messages.Messages.{Messages}
+use Rattle.picture.specs.Drawings.{Begun, columns_of}
+use Rattle.picture.specs.Messages.{ColumnShown, NoMessages}
 use Rattle.picture.specs.Scales.{scale_of}
 use Rattle.picture.specs.Tracks.{Followed, NoLines, NoneDrawn, AllDrawn, Drawn, NothingSince, forgotten, nothing, since_at}
 use Rattle.picture.specs.declared.track.Since.{Since}
@@ -126,16 +128,28 @@ first_drawn s trains since left before after none all n train t = elim (slice_ge
   | inr h ↦ absurd (omega (arith, h.0, none.number, slice_get_within trains n train t))
 ]
 
+-- a column with nothing in it shows nothing
+none_shown : (before after : Messages) → NoMessages before → ColumnShown before after → NoMessages after
+none_shown before after none shown = record {
+  sent = shown.sent ∙ none.sent;
+  sendings = rw (none.column, none.sendings) at shown.sendings;
+  hearings = rw (none.column, none.hearings) at shown.hearings;
+  heard = shown.heard ∙ none.heard;
+  column = shown.column;
+}
+
 pub begun : (extent : Extent) (trains : List Train) (before : List Track) (noted after : Drawing) → NoneDrawn (length trains) before →
     noted.scale ≡ scale_of extent → noted.events ≡ 0 → noted.ticks ≡ 0 → noted.tracks.items ≡ before → noted.nearest ≡ None →
     after.scale ≡ noted.scale → after.events ≡ noted.events → after.ticks ≡ noted.ticks → after.nearest ≡ noted.nearest →
     AllDrawn noted.scale noted.events trains noted.since.items after.since.items noted.tracks.items after.tracks.items →
     length noted.since.items ≡ length trains → NothingSince noted.since.items →
-    after.restarts.items ≡ [] → after.restarted ≡ false → Begun extent trains after
-begun extent trains before noted after none scale events ticks tracks nearest same_scale same_events same_ticks same_nearest all since nothing restarts restarted =
+    after.restarts.items ≡ [] → after.restarted ≡ false →
+    after.columns ≡ columns_of extent (length trains) → NoMessages noted.messages → ColumnShown noted.messages after.messages → Begun extent trains after
+begun extent trains before noted after none scale events ticks tracks nearest same_scale same_events same_ticks same_nearest all since nothing restarts restarted columns messages shown =
     let drawn : AllDrawn after.scale 0 trains noted.since.items after.since.items before after.tracks.items = rw (sym tracks, same_scale, sym events) all in
     record {
       scale = same_scale ∙ scale;
+      columns = columns;
       events = same_events ∙ events;
       ticks = same_ticks ∙ ticks;
       tracks = drawn.count ∙ none.number;
@@ -144,5 +158,6 @@ begun extent trains before noted after none scale events ticks tracks nearest sa
       nothing = still_nothing _ _ _ _ _ _ _ all nothing;
       restarts = restarts;
       restarted = restarted;
+      messages = none_shown noted.messages after.messages messages shown;
       nearest = same_nearest ∙ nearest;
     }

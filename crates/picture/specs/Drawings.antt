@@ -15,7 +15,7 @@ use Rattle.picture.specs.declared.scale.Scale.{Scale}
 use Rattle.picture.specs.declared.sending.Kind.{Kind}
 use Rattle.picture.specs.declared.sending.Kind.TheVariants as kind
 use Rattle.picture.specs.declared.sending.Sending.{Sending}
-use Rattle.picture.specs.Messages.{ColumnShown, HeardMore, MessagesKept, SentMore, ShownKept}
+use Rattle.picture.specs.Messages.{ColumnShown, HeardMore, MessagesKept, NoMessages, SentMore, ShownKept}
 use Rattle.picture.specs.Nearest.{SmallestGap, gap_between}
 use Rattle.picture.specs.Scales.{scale_of}
 use Rattle.picture.specs.Tracks.{AllDrawn, Followed, MarkedIf, NoLines, NothingSince, since_at}
@@ -175,9 +175,14 @@ pub record OneMore (event : Event) (word : Option Word) (trains : List Train) (a
   pub smallest : SmallestGap trains gap
   pub nearest : after.nearest ≡ nearest_of before.nearest gap after.events
 
+-- how many columns a picture has: never more than events, and with many trains not so many
+abbrev pub columns_of : Extent → (trains : ℕ) → ℕ
+columns_of e trains = min (min e.events 1290) (25600 / max trains 1)
+
 -- a drawing of a day that will have this extent, before its first event: the lines of each train begin where it stands
 pub record Begun (extent : Extent) (trains : List Train) (drawing : Drawing) : Type 0 where
   pub scale : drawing.scale ≡ scale_of extent
+  pub columns : drawing.columns ≡ columns_of extent (length trains)
   pub events : drawing.events ≡ 0
   pub ticks : drawing.ticks ≡ 0
   pub tracks : length drawing.tracks.items ≡ length trains
@@ -187,4 +192,5 @@ pub record Begun (extent : Extent) (trains : List Train) (drawing : Drawing) : T
   pub nothing : NothingSince drawing.since.items
   pub restarts : drawing.restarts.items ≡ []
   pub restarted : drawing.restarted ≡ false
+  pub messages : NoMessages drawing.messages
   pub nearest : drawing.nearest ≡ None

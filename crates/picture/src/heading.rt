@@ -18,7 +18,7 @@ pub struct Heading<'t, 'r> {
 // No title is longer on the page, in signs; of a longer one its end is written.
 const TITLE: usize = 45;
 
-// No line of a refusal is longer, in bytes, if it has a blank.
+// The first line of a refusal is not longer, in bytes, if it has a blank.
 const REFUSAL: usize = 120;
 
 pub fn write_heading(

@@ -32,12 +32,15 @@ pub fn write_legend(out: &mut String, drawing: &Drawing) -> Result<(), AllocErro
     if drawing.scale.cut < drawing.scale.highest {
         out.push_str(CUT)?;
     }
-    let heard = drawing.messages.heard;
-    let drawn = drawing.messages.hearings.len() as u64;
-    if drawn < heard {
+    let messages = &drawing.messages;
+    let heard = messages.heard;
+    let hearings = messages.hearings.len() as u64;
+    let sent = messages.count();
+    let sendings = messages.sendings.len();
+    if hearings < heard || sendings < sent {
         writeln!(
             out,
-            "<text class=\"small\" x=\"1250\" y=\"11200\">Of {heard} hearings and takings {drawn} are drawn: where several come to one column of the picture, the one of each kind whose message was sent first.</text>"
+            "<text class=\"small\" x=\"1250\" y=\"11200\">Drawn are {sendings} of {sent} sendings and {hearings} of {heard} hearings and takings: of each kind the first sent in each column of the picture.</text>"
         )?;
     }
     Ok(())

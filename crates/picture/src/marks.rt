@@ -93,8 +93,8 @@ fn percent(columns: u64, trains: u64) -> u64
     ensures { result ≤ 100 }
 {
     let by_columns = 24_000 / columns.max(1);
-    let by_trains = 2_400 / trains.max(1);
-    by_columns.min(by_trains).clamp(45, 100)
+    let by_trains = 1_600 / trains.max(1);
+    by_columns.min(by_trains).clamp(25, 100)
 }
 
 #[tactic(auto, unfolding(crate::specs::Marks::mark_text))]

@@ -1,5 +1,6 @@
 // Messages of a picture: each at the place that it says, from where it was sent to where it was heard or taken.
-ghost use Rattle.picture.specs.MessageLines.{hearing_text, kind_class};
+ghost use Rattle.picture.specs.MessageLines.{hearing_mark, hearing_text, kind_class, sending_mark};
+ghost use Rattle.picture.specs.Marks.{mark_text};
 ghost use Rattle.std.specs.Prelude.{◌≡◌, ◌++◌, OnOk, Some, string_bytes};
 
 use crate::marks::{Mark, write_mark, write_marks};
@@ -39,7 +40,9 @@ pub fn write_messages(
     write_marks(out, Mark::Restart, restarts)
 }
 
-fn write_hearing(out: &mut String, hearing: &Hearing) -> Result<(), AllocError> {
+fn write_hearing(out: &mut String, hearing: &Hearing) -> Result<(), AllocError>
+    ensures { OnOk result (string_bytes out.new ≡ string_bytes out.old ++ mark_text (hearing_mark hearing.now) hearing.now.at) }
+{
     let mark = if hearing.taken {
         Mark::Taken
     } else {
@@ -76,7 +79,9 @@ impl fmt::Display for Kind {
     }
 }
 
-fn write_sending(out: &mut String, sending: &Sending) -> Result<(), AllocError> {
+fn write_sending(out: &mut String, sending: &Sending) -> Result<(), AllocError>
+    ensures { OnOk result (string_bytes out.new ≡ string_bytes out.old ++ mark_text (sending_mark sending.now.kind) sending.now.at) }
+{
     let mark = match sending.kind {
         Kind::Report => Mark::Report,
         Kind::Words => Mark::Words,
