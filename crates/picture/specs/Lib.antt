@@ -6,6 +6,7 @@ pub mod MessageLines
 pub mod Messages
 pub mod Nearest
 pub mod Page
+pub mod Places
 pub mod Points
 pub mod Scales
 pub mod Tracks

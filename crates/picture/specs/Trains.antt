@@ -3,6 +3,8 @@ use Rattle.std.specs.Prelude.{ℕ, ◌+◌, ◌%◌, List, [], ◌∷◌, ◌++�
 use Rattle.picture.specs.declared.page.Point.{Point}
 use Rattle.picture.specs.declared.track.Lines.{Lines}
 use Rattle.picture.specs.declared.track.Track.{Track}
+use Rattle.picture.specs.declared.marks.Mark.TheVariants.{Braked, Marked}
+use Rattle.picture.specs.Marks.{marks_text}
 use Rattle.picture.specs.Points.{points_text, turns}
 
 -- a line through points
@@ -25,3 +27,8 @@ train_text train l =
 abbrev pub trains_text : (train : ℕ) → List Track → List ℕ
 trains_text train [] = []
 trains_text train (track ∷ tracks) = train_text train track.lines ++ trains_text (train + 1) tracks
+
+-- where trains passed marks, and where their units braked
+abbrev pub braked_text : List Track → List ℕ
+braked_text [] = []
+braked_text (track ∷ tracks) = marks_text Marked track.marked.items ++ (marks_text Braked track.braked.items ++ braked_text tracks)

@@ -1,43 +1,77 @@
 // Messages of a picture: each at the place that it says, from where it was sent to where it was heard or taken.
-ghost use Rattle.picture.specs.MessageLines.{hearing_mark, hearing_text, kind_class, sending_mark};
+ghost use Rattle.picture.specs.MessageLines.{hearing_mark, hearing_text, hearings_text, is_grant, kind_class, line_if_text, lines_text, sending_mark, sendings_text};
 ghost use Rattle.picture.specs.Marks.{mark_text};
-ghost use Rattle.std.specs.Prelude.{◌≡◌, ◌++◌, OnOk, Some, string_bytes};
+ghost use Rattle.std.specs.Prelude.{◌≡◌, ◌++◌, OnOk, Some, false, string_bytes, true};
 
-use crate::marks::{Mark, write_mark, write_marks};
-use crate::messages::Messages;
-use crate::page::Point;
+use crate::marks::{Mark, write_mark};
 use crate::sending::{Hearing, Kind, Sending};
 use std::alloc::AllocError;
 use std::fmt;
 
 // The broad lines of grants, which lie under the trains.
-pub fn write_grants(out: &mut String, messages: &Messages) -> Result<(), AllocError> {
-    for hearing in &messages.hearings {
-        if hearing.sending.kind == Kind::Grant {
-            write_line(out, hearing)?;
-        }
+pub fn write_grants(out: &mut String, hearings: &[Hearing]) -> Result<(), AllocError>
+    ensures { OnOk result (string_bytes out.new ≡ string_bytes out.old ++ lines_text true hearings.now) }
+{
+    write_lines(out, true, hearings)
+}
+
+// The thin lines of reports, which lie over them.
+pub fn write_reports(out: &mut String, hearings: &[Hearing]) -> Result<(), AllocError>
+    ensures { OnOk result (string_bytes out.new ≡ string_bytes out.old ++ lines_text false hearings.now) }
+{
+    write_lines(out, false, hearings)
+}
+
+// The lines of grants, or those of all else.
+fn write_lines(
+    out: &mut String,
+    of_grants: bool,
+    mut hearings: &[Hearing],
+) -> Result<(), AllocError>
+    ensures { OnOk result (string_bytes out.new ≡ string_bytes out.old ++ lines_text of_grants hearings.now) }
+{
+    while let Some((hearing, rest)) = hearings.split_first() {
+        write_line_if(out, of_grants, hearing)?;
+        hearings = rest;
     }
     Ok(())
 }
 
-// The thin lines of reports, and all marks.
-pub fn write_messages(
-    out: &mut String,
-    messages: &Messages,
-    restarts: &[Point],
-) -> Result<(), AllocError> {
-    for hearing in &messages.hearings {
-        if hearing.sending.kind != Kind::Grant {
-            write_line(out, hearing)?;
-        }
+fn write_line_if(out: &mut String, of_grants: bool, hearing: &Hearing) -> Result<(), AllocError>
+    ensures { OnOk result (string_bytes out.new ≡ string_bytes out.old ++ line_if_text of_grants hearing.now) }
+{
+    if is_grant(hearing.sending.kind) != of_grants {
+        return Ok(());
     }
-    for sending in &messages.sendings {
+    write_line(out, hearing)
+}
+
+fn is_grant(kind: Kind) -> bool
+    ensures { result ≡ is_grant kind }
+{
+    matches!(kind, Kind::Grant)
+}
+
+// The marks where messages were sent.
+pub fn write_sendings(out: &mut String, mut sendings: &[Sending]) -> Result<(), AllocError>
+    ensures { OnOk result (string_bytes out.new ≡ string_bytes out.old ++ sendings_text sendings.now) }
+{
+    while let Some((sending, rest)) = sendings.split_first() {
         write_sending(out, sending)?;
+        sendings = rest;
     }
-    for hearing in &messages.hearings {
+    Ok(())
+}
+
+// And those where they were heard or taken.
+pub fn write_hearings(out: &mut String, mut hearings: &[Hearing]) -> Result<(), AllocError>
+    ensures { OnOk result (string_bytes out.new ≡ string_bytes out.old ++ hearings_text hearings.now) }
+{
+    while let Some((hearing, rest)) = hearings.split_first() {
         write_hearing(out, hearing)?;
+        hearings = rest;
     }
-    write_marks(out, Mark::Restart, restarts)
+    Ok(())
 }
 
 fn write_hearing(out: &mut String, hearing: &Hearing) -> Result<(), AllocError>

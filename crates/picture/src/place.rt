@@ -1,4 +1,7 @@
 // Places as numbers of an axis.
+ghost use Rattle.picture.specs.Places.{at_grid, exact, in_unit};
+ghost use Rattle.std.specs.Prelude.{◌≡◌};
+
 use std::fmt;
 
 // A place in metres or kilometres, with so many digits behind the point.
@@ -12,7 +15,9 @@ pub struct Place {
 
 impl Place {
     // A place of a grid with this step, with no more digits than the grid needs.
-    pub fn at_grid(place: u64, step: u64, in_kilometres: bool) -> Place {
+    pub fn at_grid(place: u64, step: u64, in_kilometres: bool) -> Place
+        ensures { result ≡ at_grid place step in_kilometres }
+    {
         if in_kilometres && step.is_multiple_of(10_000) {
             Place::of(place, 10_000, 1, 0)
         } else if in_kilometres {
@@ -25,7 +30,9 @@ impl Place {
     }
 
     // A place to the decimetre.
-    pub fn exact(place: u64, in_kilometres: bool) -> Place {
+    pub fn exact(place: u64, in_kilometres: bool) -> Place
+        ensures { result ≡ exact place in_kilometres }
+    {
         if !in_kilometres {
             return Place::at_grid(place, place, false);
         }
@@ -35,7 +42,9 @@ impl Place {
         Place::of(place, 10_000, 1, 4)
     }
 
-    fn of(place: u64, unit: u64, last: u64, digits: usize) -> Place {
+    fn of(place: u64, unit: u64, last: u64, digits: usize) -> Place
+        ensures { result ≡ in_unit place unit last digits }
+    {
         Place {
             whole: place / unit.max(1),
             part: place % unit.max(1) / last.max(1),

@@ -1,5 +1,5 @@
 // The trains of a picture: bands, lines and names.
-ghost use Rattle.picture.specs.Trains.{band_text, line_text, train_text, trains_text};
+ghost use Rattle.picture.specs.Trains.{band_text, braked_text, line_text, train_text, trains_text};
 ghost use Rattle.std.specs.Prelude.{◌≡◌, ◌++◌, OnOk, string_bytes};
 
 use crate::drawing::Drawing;
@@ -60,10 +60,13 @@ fn write_line(out: &mut String, class: &str, points: &[Point]) -> Result<(), All
 }
 
 // Where units braked, and where trains passed marks.
-pub fn write_braked(out: &mut String, drawing: &Drawing) -> Result<(), AllocError> {
-    for track in &drawing.tracks {
+pub fn write_braked(out: &mut String, mut tracks: &[Track]) -> Result<(), AllocError>
+    ensures { OnOk result (string_bytes out.new ≡ string_bytes out.old ++ braked_text tracks.now) }
+{
+    while let Some((track, rest)) = tracks.split_first() {
         write_marks(out, Mark::Marked, &track.marked)?;
         write_marks(out, Mark::Braked, &track.braked)?;
+        tracks = rest;
     }
     Ok(())
 }
