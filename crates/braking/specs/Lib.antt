@@ -2,3 +2,4 @@ pub mod Refusals
 pub mod Limits
 pub mod Distance
 pub mod Laws
+pub mod Words

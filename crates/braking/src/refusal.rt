@@ -1,6 +1,7 @@
 // Why something is turned away: one enum for the whole project; and what a step that may refuse hands back.
 ghost use Rattle.braking.specs.Refusals.{check, done, kept, listed};
-ghost use Rattle.std.specs.Prelude.{◌≡◌};
+ghost use Rattle.braking.specs.Words.{reason, refusal_text};
+ghost use Rattle.std.specs.Prelude.{◌≡◌, Some};
 
 use std::{error, fmt};
 
@@ -64,7 +65,10 @@ impl Refusal {
     }
 
     // What would be right, in words; where that is not told in a few, what is wrong.
-    fn reason(self) -> &'static str {
+    #[tactic(auto, unfolding(crate::specs::Words::reason))]
+    fn reason(self) -> &'static str
+        ensures { result.now ≡ reason self }
+    {
         match self {
             Refusal::BrakeRange => "a brake is from 1 to 100",
             Refusal::BlurRange => "a blur is from 0 to 100",
@@ -104,6 +108,9 @@ pub fn handed_back<S: Copy>(state: S, after: Result<S, Refusal>) -> (S, Result<(
 }
 
 impl fmt::Display for Refusal {
+    ghost output = { λ refusal. Some (refusal_text refusal) };
+
+    #[tactic(auto, unfolding(crate::specs::Words::refusal_text))]
     fn fmt<W: fmt::Write>(&self, f: &mut fmt::Formatter<W>) -> fmt::Result {
         let number = self.number();
         let place = self.place();

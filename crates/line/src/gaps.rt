@@ -1,7 +1,8 @@
 // The gaps between trains.
 ghost use Rattle.line.specs.Inside.{count_of, smaller, with_gap, with_more};
 ghost use Rattle.line.specs.Runs.{Counted};
-ghost use Rattle.std.specs.Prelude.{◌≡◌, ℕ, ◌+◌, ◌<◌, ◌^◌, ◌++◌, List, [], length};
+ghost use Rattle.line.specs.Words.{gaps_text};
+ghost use Rattle.std.specs.Prelude.{◌≡◌, ℕ, ◌+◌, ◌<◌, ◌^◌, ◌++◌, List, [], Some, length};
 
 use std::fmt;
 
@@ -74,6 +75,9 @@ fn smaller(one: Option<u64>, other: Option<u64>) -> Option<u64>
 }
 
 impl fmt::Display for Gaps {
+    ghost output = { λ gaps. Some (gaps_text gaps) };
+
+    #[tactic(auto, unfolding(crate::specs::Words::gaps_text, crate::specs::Words::smallest_text))]
     fn fmt<W: fmt::Write>(&self, f: &mut fmt::Formatter<W>) -> fmt::Result {
         let count = self.count;
         match self.smallest {

@@ -1,4 +1,7 @@
 // Why there is no new line.
+ghost use Rattle.line.specs.Words.{new_error_text};
+ghost use Rattle.std.specs.Prelude.{Some};
+
 use braking::Refusal;
 use std::{error, fmt};
 
@@ -9,6 +12,9 @@ pub enum NewError {
 }
 
 impl fmt::Display for NewError {
+    ghost output = { λ error. Some (new_error_text error) };
+
+    #[tactic(auto, unfolding(crate::specs::Words::new_error_text))]
     fn fmt<W: fmt::Write>(&self, f: &mut fmt::Formatter<W>) -> fmt::Result {
         match self {
             NewError::Refused(why) => why.fmt(f),

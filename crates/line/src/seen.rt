@@ -1,4 +1,7 @@
 // What is seen of a tick.
+ghost use Rattle.line.specs.Words.{seen_text, word_text};
+ghost use Rattle.std.specs.Prelude.{◌≡◌, Some};
+
 use onboard::Word;
 use std::fmt;
 
@@ -13,6 +16,9 @@ pub struct Seen {
 }
 
 impl fmt::Display for Seen {
+    ghost output = { λ seen. Some (seen_text seen) };
+
+    #[tactic(auto, unfolding(crate::specs::Words::seen_text))]
     fn fmt<W: fmt::Write>(&self, f: &mut fmt::Formatter<W>) -> fmt::Result {
         let Seen {
             train,

@@ -1,4 +1,7 @@
 // Why an event was not done.
+ghost use Rattle.line.specs.Words.{step_error_text};
+ghost use Rattle.std.specs.Prelude.{Some};
+
 use std::{error, fmt};
 
 #[derive(Clone, Copy, PartialEq, Eq, Debug)]
@@ -10,6 +13,9 @@ pub enum StepError {
 }
 
 impl fmt::Display for StepError {
+    ghost output = { λ error. Some (step_error_text error) };
+
+    #[tactic(auto, unfolding(crate::specs::Words::step_error_text))]
     fn fmt<W: fmt::Write>(&self, f: &mut fmt::Formatter<W>) -> fmt::Result {
         f.write_str(match self {
             StepError::Impossible => "this event cannot be",
