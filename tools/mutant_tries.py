@@ -1,0 +1,136 @@
+"""Has edits proved, some at a time, each in a copy of the crate. Called by tools/mutants."""
+
+import os
+import re
+import shutil
+import signal
+import subprocess
+import sys
+import tempfile
+from concurrent.futures import FIRST_COMPLETED, ThreadPoolExecutor, wait
+
+PROVED = "STILL PROVED"
+EQUIVALENT = "equivalent"
+REFUSED = "refused"
+FILE_ONLY = "only a proof file"
+NOT_RUST = "does not compile"
+UNKNOWN = "not tried to its end"
+OUTCOMES = [REFUSED, EQUIVALENT, PROVED, FILE_ONLY, UNKNOWN, NOT_RUST]
+COUNTED = [REFUSED, EQUIVALENT, PROVED]
+# A proof file that names what an edit took away, or that was not admitted because of it.
+FILE_UNFIT = re.compile(r"(note: )?(\./)?proofs/.*(has no field|is not in scope|has no `|was not admitted)")
+SECONDS = 900
+
+
+class Copy:
+    """A copy of the crate and of those below it, with what was proved of them. It is one of several: each tries one edit at a time."""
+
+    def __init__(self, root, crate, below):
+        self.crate = crate
+        self.top = tempfile.mkdtemp(prefix="mutants-")
+        with open(f"{root}/crates.txt", encoding="utf-8") as lines, open(f"{self.top}/crates.txt", "w", encoding="utf-8") as it:
+            it.writelines(line for line in lines if line.partition(":")[0].split()[:1] and line.split()[0].rstrip(":") in [*below, crate])
+        for name in [*below, crate]:
+            shutil.copytree(f"{root}/crates/{name}", f"{self.top}/crates/{name}", symlinks=True)
+        self.folder = f"{self.top}/crates/{crate}"
+        shutil.rmtree(f"{self.folder}/must-fail", ignore_errors=True)
+        self.take_away_proofs_by_hand()
+
+    def take_away_proofs_by_hand(self):
+        """A proof by hand follows the code word by word, so every edit would only make it unfit. Without it the function is
+        proved by what the prover makes itself, and an edit is refused where a fact does not hold."""
+        for at, _, files in os.walk(f"{self.folder}/proofs"):
+            if "Proof.antt" in files:
+                os.remove(f"{at}/Proof.antt")
+
+    def check(self):
+        how = {"cwd": self.folder, "stdin": subprocess.DEVNULL, "stdout": subprocess.PIPE, "stderr": subprocess.STDOUT}
+        try:
+            ran = subprocess.run(["rt", "check", self.crate, "--jobs", "1"], **how, text=True, errors="replace", timeout=SECONDS)
+        except subprocess.TimeoutExpired as late:
+            return -signal.SIGKILL, str(late.stdout or "")
+        return ran.returncode, ran.stdout
+
+    def keep(self):
+        """Keeps what is proved of the crate as it stands: each edit begins with that."""
+        shutil.copytree(f"{self.folder}/out", f"{self.top}/kept", symlinks=True)
+
+    def attempt(self, edit):
+        """Has the crate proved with the edit."""
+        path = f"{self.folder}/src/{edit.file}"
+        with open(path, encoding="utf-8") as it:
+            text = it.read()
+        try:
+            with open(path, "w", encoding="utf-8") as it:
+                it.write(edit.made(text))
+            return outcome(*self.check())
+        finally:
+            with open(path, "w", encoding="utf-8") as it:
+                it.write(text)
+            shutil.rmtree(f"{self.folder}/out", ignore_errors=True)
+            shutil.copytree(f"{self.top}/kept", f"{self.folder}/out", symlinks=True)
+
+
+def outcome(status, said):
+    """What a check came to, and the first line that tells why."""
+    lines = said.rstrip("\n").split("\n")
+    told = [it for it in lines if re.match(r"(note: )?\S+:\d+:\d+:", it)]
+    told = [it for it in told if ": error" in it or it.startswith("note: ")] or told
+    if status == 0:
+        return PROVED, ""
+    if any(it.startswith("logic=not-proved") for it in lines):
+        first = next((it for it in told if not FILE_UNFIT.match(it)), "")
+        return (REFUSED if first or not told else FILE_ONLY), f" ({(first or (told or lines)[0])[:110]})"
+    if re.search(r"\berror(\[[\w-]+\])?:", said):
+        return NOT_RUST, ""
+    return UNKNOWN, f" ({lines[-1][:110]})"
+
+
+def try_all(root, crate, below, order, count, jobs):
+    """Tries edits in their order until so many were proved or refused, and gives each with its outcome."""
+    print(f"mutants: copying {crate} and proving it as it stands", file=sys.stderr, flush=True)
+    first = Copy(root, crate, below)
+    copies = [first]
+    try:
+        status, said = first.check()
+        if status:
+            sys.exit(f"mutants: {crate} is not proved as it stands:\n{said[-800:]}")
+        first.keep()
+        for _ in range(1, jobs):
+            copies.append(another(first))
+        yield from in_lanes(copies, order, count)
+    finally:
+        for copy in copies:
+            shutil.rmtree(copy.top, ignore_errors=True)
+
+
+def another(first):
+    """A copy of a copy: its crates below need not be proved again."""
+    copy = object.__new__(Copy)
+    copy.crate = first.crate
+    copy.top = tempfile.mkdtemp(prefix="mutants-")
+    shutil.copytree(first.top, copy.top, symlinks=True, dirs_exist_ok=True)
+    copy.folder = f"{copy.top}/crates/{copy.crate}"
+    return copy
+
+
+def in_lanes(copies, order, count):
+    """Tries one edit in each copy at a time. Public functions that have none yet are served beyond the count."""
+    free, running, done = list(copies), {}, 0
+    with ThreadPoolExecutor(len(copies)) as pool:
+        while True:
+            while free and (done + len(running) < count or order.wanting):
+                edit = order.next()
+                if edit is None:
+                    break
+                copy = free.pop()
+                running[pool.submit(copy.attempt, edit)] = copy, edit
+            if not running:
+                return
+            for ended in wait(running, return_when=FIRST_COMPLETED).done:
+                copy, edit = running.pop(ended)
+                free.append(copy)
+                came, why = ended.result()
+                order.ended(edit, came in COUNTED)
+                done += came in COUNTED
+                yield edit, came, why
