@@ -58,6 +58,8 @@ OTHER_NAME = {
 # Calls that hand on what they are called on, or something near it: each can be left out.
 STEPS = ("max", "min", "clamp", "saturating_add", "saturating_sub", "saturating_mul", "rev", "skip", "take")
 NUMBERS = ("u8", "u32", "u64", "usize")
+# Names for which no other value is put: what is given only to be used up, and words of the language.
+KEPT = ("alloc", "f", "out", "let", "for", "if", "in", "mut", "ref", "move", "true", "false", "self", "match", "while", "return")
 
 
 @dataclass(frozen=True)
@@ -210,9 +212,43 @@ class Editor:
     def __init__(self, source, body, cases):
         self.source, self.body, self.cases = source, body, cases
         self.tokens = body.tokens
-        made = [other.text for one, other in zip(body.tokens, body.tokens[1:]) if one.text in ("let", "mut") and other.kind == "name"]
-        self.locals = {it: body.given.get(it, "") for it in [*body.given, *made] if it not in ("mut", "alloc", "f", "out") and it[0].islower()}
+        self.patterns = self.in_patterns()
+        self.locals = {it: body.given.get(it, "") for it in [*body.given, *self.bound()] if it not in KEPT}
         self.found = []
+
+    def in_patterns(self):
+        """The numbers of the tokens that are matched against: between `let` and `=`, `for` and `in`, and before `=>`."""
+        found = set()
+        for number, token in enumerate(self.tokens):
+            if token.text in ("let", "for"):
+                stop = number
+                while stop < len(self.tokens) - 1 and self.tokens[stop].text not in ("=", "in", ";"):
+                    stop = self.closing(stop) if self.tokens[stop].text in OPEN else stop
+                    stop += 1
+                found |= set(range(number, stop))
+            elif token.text == "match":
+                start = self.arms_of(number)
+                begin = start + 1
+                for first, last in self.answers(start):
+                    guard = next((it for it in range(begin, first) if self.tokens[it].text == "if"), first)
+                    found |= set(range(begin, guard))
+                    begin = last + 1
+        return found
+
+    def bound(self):
+        """The names that patterns bind."""
+        for number in sorted(self.patterns):
+            token, after = self.tokens[number], self.tokens[number + 1].text
+            if token.kind == "name" and token.text[0].islower() and after not in (":", "::", "(", "{", "!", "."):
+                yield token.text
+
+    def arms_of(self, number):
+        """The number of the brace that opens the arms of a match."""
+        start = number + 1
+        while self.tokens[start].text != "{":
+            start = self.closing(start) if self.tokens[start].text in OPEN else start
+            start += 1
+        return start
 
     def add(self, at, end, new):
         text = self.source.text
@@ -292,7 +328,7 @@ class Editor:
 
     def is_operand(self, number, token, before, after):
         """Whether it is a value that is used where it stands, and not a pattern, a type or a call."""
-        if token.text not in self.locals or before is None or after is None:
+        if token.text not in self.locals or before is None or after is None or number in self.patterns:
             return False
         is_first = before.text in ("(", ",", "=", "==", "<", "<=", ">", ">=", "+", "-", "*", "/", "%", "+=", "-=", "{", ";", "=>", "return", "!", "&")
         return is_first and after.text in (")", ",", ";", "==", "<", "<=", ">", ">=", "+", "-", "*", "/", "%", "}", "{", "]")
@@ -408,11 +444,7 @@ class Editor:
 
     def of_match(self, number):
         """The answer of one arm is that of the next."""
-        start = number
-        while self.tokens[start].text != "{":
-            start = self.closing(start) if self.tokens[start].text in OPEN else start
-            start += 1
-        answers = self.answers(start)
+        answers = self.answers(self.arms_of(number))
         text = self.source.text
         for one, other in zip(answers, answers[1:] + answers[:1]):
             first, second = (text[self.tokens[it[0]].at : self.tokens[it[1]].end] for it in (one, other))
