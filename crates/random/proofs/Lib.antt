@@ -1,3 +1,4 @@
+pub mod Drawn
 pub mod Nothing
 pub mod Trains
 pub mod Heads

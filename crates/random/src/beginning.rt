@@ -1,6 +1,7 @@
 // How a random day begins.
 ghost use Rattle.braking.specs.Limits.{place_max};
 ghost use Rattle.line.specs.Initial.{fits, trains_checked};
+ghost use Rattle.random.specs.Chances.{coming, some_brake, up_to_or_all};
 ghost use Rattle.random.specs.Days.{Begins, head_lines};
 ghost use Rattle.std.specs.Prelude.{◌≡◌, ◌≤◌, IfOk, Ok, length, true};
 
@@ -76,7 +77,9 @@ fn random_trains(
 
 // Half of the time as many as there can be.
 fn up_to_or_all(most: u64, chance: &mut Chance) -> u64
-    ensures { result ≤ most }
+    ensures high { result ≤ most }
+    ensures value { result ≡ (up_to_or_all most (coming chance.old)).0 }
+    ensures numbers { coming chance.new ≡ (up_to_or_all most (coming chance.old)).1 }
 {
     if chance.one_in(2) {
         most
@@ -88,6 +91,8 @@ fn up_to_or_all(most: u64, chance: &mut Chance) -> u64
 fn some_brake(chance: &mut Chance) -> u64
     ensures low { 1 ≤ result }
     ensures high { result ≤ 100 }
+    ensures value { result ≡ (some_brake (coming chance.old)).0 }
+    ensures numbers { coming chance.new ≡ (some_brake (coming chance.old)).1 }
 {
     if chance.one_in(3) {
         1 + chance.up_to(3)

@@ -1,4 +1,5 @@
 // Random numbers that follow from a seed.
+ghost use Rattle.random.specs.Chances.{coming, one_in, up_to};
 ghost use Rattle.rand_xoshiro.specs.SplitMix64.{splitmix_seed};
 ghost use Rattle.rand_xoshiro.specs.Xoshiro256.{of_seed};
 ghost use Rattle.std.specs.Prelude.{◌≡◌, ◌≤◌, true};
@@ -22,15 +23,20 @@ impl Chance {
     }
 
     // A number from 0 to `highest`, each as often as another.
+    #[tactic(auto, using(crate::proofs::Drawn::drawn_up_to), unfolding(crate::specs::Chances::coming))]
     pub fn up_to(&mut self, highest: u64) -> u64
-        ensures { result ≤ highest }
+        ensures high { result ≤ highest }
+        ensures value { result ≡ (up_to highest (coming self.old)).0 }
+        ensures numbers { coming self.new ≡ (up_to highest (coming self.old)).1 }
     {
         self.numbers.random_range(0..=highest)
     }
 
     // True once in so many times.
     pub fn one_in(&mut self, times: u64) -> bool
-        ensures { times ≤ 1 → result ≡ true }
+        ensures always { times ≤ 1 → result ≡ true }
+        ensures value { result ≡ (one_in times (coming self.old)).0 }
+        ensures numbers { coming self.new ≡ (one_in times (coming self.old)).1 }
     {
         self.up_to(times.saturating_sub(1)) == 0
     }
