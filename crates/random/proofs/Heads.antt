@@ -13,7 +13,8 @@ use Rattle.scenario.specs.Lines.{HeadFits}
 use Rattle.scenario.specs.Laws.{NoDoubles}
 use Rattle.scenario.specs.Texts.{is_double}
 use Rattle.random.specs.declared.day.Extent.{Extent}
-use Rattle.random.specs.Days.{Begins, head_lines}
+use Rattle.random.specs.Days.{Begins}
+use Rattle.random.specs.Heads.{head_lines}
 use Rattle.random.proofs.Trains.{first_fits}
 
 same_brakes : (brakes : Brakes) (ts : List Standing) → fold with_brakes brakes (map heads.Train ts) ≡ brakes

@@ -1,6 +1,6 @@
 -- Numbers that are drawn one after another: what is drawn of the words that come, and the words that come then.
 -- Assumes nothing: these are definitions.
-use Rattle.std.specs.Prelude.{ℕ, ◌+◌, ◌-◌, ◌^◌, ◌==◌, Bool, if◌then◌else◌}
+use Rattle.std.specs.Prelude.{ℕ, ◌+◌, ◌-◌, ◌^◌, ◌==◌, Bool}
 use Rattle.rand.specs.Uniform.{below_or_word, canon}
 use Rattle.rand_core.specs.Stream.{Stream, next_u64}
 use Rattle.rand_core.specs.Steps.{stream_of, steps_u64_high}
@@ -18,13 +18,3 @@ up_to highest s = below_or_word canon (2 ^ 64) next_u64 (highest + 1) s
 -- whether it is the one time in so many
 abbrev pub one_in : (times : ℕ) → Stream → Bool × Stream
 one_in times s = ((up_to (times - 1) s).0 == 0, (up_to (times - 1) s).1)
-
--- half of the time as many as there can be
-abbrev pub up_to_or_all : (most : ℕ) → Stream → ℕ × Stream
-up_to_or_all most s = if (one_in 2 s).0 then (most, (one_in 2 s).1) else up_to most (one_in 2 s).1
-
-abbrev pub some_brake : Stream → ℕ × Stream
-some_brake s =
-    if (one_in 3 s).0
-    then (1 + (up_to 3 (one_in 3 s).1).0, (up_to 3 (one_in 3 s).1).1)
-    else (1 + (up_to 99 (one_in 3 s).1).0, (up_to 99 (one_in 3 s).1).1)

@@ -1,22 +1,16 @@
 -- What a random day is. Assumes nothing: these are definitions.
-use Rattle.std.specs.Prelude.{◌≡◌, ℕ, ◌≤◌, ◌⊎◌, false, List, [], ◌∷◌, length, map, Ok}
+use Rattle.std.specs.Prelude.{◌≡◌, ℕ, ◌≤◌, ◌⊎◌, false, List, [], length, Ok}
 use Rattle.std.specs.List.{AllByRecursion}
-use Rattle.line.specs.declared.initial.Standing.{Standing}
 use Rattle.line.specs.Initial.{new_line}
 use Rattle.safety.specs.declared.event.Event.{Event}
 use Rattle.safety.specs.State.{State}
 use Rattle.safety.specs.Events as events
 use Rattle.scenario.specs.declared.entry.HeadLine.{HeadLine}
-use Rattle.scenario.specs.declared.entry.HeadLine.TheVariants as heads
 use Rattle.scenario.specs.Heads.{brakes_of, controllers_of, trains_of}
 use Rattle.scenario.specs.Lines.{HeadFits, EventFits}
 use Rattle.scenario.specs.Laws.{NoDoubles}
 use Rattle.random.specs.declared.day.Extent.{Extent}
 use Rattle.random.specs.declared.day.Day.{Day}
-
--- the lines of a head
-abbrev pub head_lines : (brake blur controllers : ℕ) → List Standing → List HeadLine
-head_lines brake blur controllers trains = heads.Brake brake ∷ heads.Blur blur ∷ heads.Controllers controllers ∷ map heads.Train trains
 
 -- a day can begin so, it has no more trains and controllers than were wanted, and it can be written
 pub record Begins (extent : Extent) (head : List HeadLine) : Type 0 where

@@ -1,4 +1,8 @@
 // How often each kind of event comes.
+ghost use Rattle.random.specs.Chances.{coming};
+ghost use Rattle.random.specs.Shares.{all_shares, kind_at, one_of, shares, some_kinds};
+ghost use Rattle.std.specs.Prelude.{◌≡◌, ◌≤◌};
+
 use crate::chance::Chance;
 
 #[derive(Clone, Copy, PartialEq, Eq, Debug)]
@@ -27,7 +31,11 @@ pub enum Kinds {
 }
 
 impl Kinds {
-    pub fn any(chance: &mut Chance) -> Kinds {
+    #[tactic(auto, unfolding(crate::specs::Shares::some_kinds))]
+    pub fn any(chance: &mut Chance) -> Kinds
+        ensures value { result ≡ (some_kinds (coming chance.old)).0 }
+        ensures numbers { coming chance.new ≡ (some_kinds (coming chance.old)).1 }
+    {
         match chance.up_to(5) {
             0 => Kinds::Driving,
             1 => Kinds::Radio,
@@ -37,7 +45,10 @@ impl Kinds {
     }
 
     // How often each kind comes, of all of these together.
-    fn shares(self) -> [(Kind, u64); 8] {
+    #[tactic(auto, unfolding(crate::specs::Shares::shares))]
+    fn shares(self) -> [(Kind, u64); 8]
+        ensures { result ≡ shares self }
+    {
         let [tick, mark, report, hear, tell, grant, take, restart] = match self {
             Kinds::Mixed => [12, 2, 4, 5, 2, 4, 8, 1],
             Kinds::Driving => [30, 2, 2, 2, 1, 2, 4, 0],
@@ -56,19 +67,40 @@ impl Kinds {
         ]
     }
 
-    pub fn one(self, chance: &mut Chance) -> Kind {
-        let shares = self.shares();
-        let mut all = 0u64;
-        for (_, share) in shares {
-            all = all.saturating_add(share);
-        }
-        let mut left = chance.up_to(all.saturating_sub(1));
-        for (kind, share) in shares {
-            if left < share {
-                return kind;
-            }
-            left -= share;
-        }
-        Kind::Tick
+    #[tactic(auto, unfolding(crate::specs::Shares::one_of))]
+    pub fn one(self, chance: &mut Chance) -> Kind
+        ensures value { result ≡ (one_of self (coming chance.old)).0 }
+        ensures numbers { coming chance.new ≡ (one_of self (coming chance.old)).1 }
+    {
+        let number = chance.up_to(self.all_shares() - 1);
+        kind_at(&self.shares(), number)
     }
+
+    #[tactic(auto, unfolding(crate::specs::Shares::all_shares))]
+    fn all_shares(self) -> u64
+        ensures some { 1 ≤ result }
+        ensures value { result ≡ all_shares self }
+    {
+        match self {
+            Kinds::Mixed => 38,
+            Kinds::Driving => 43,
+            Kinds::Radio => 46,
+            Kinds::Even => 8,
+        }
+    }
+}
+
+// The kind that has the share of a number, counted from 0.
+#[tactic(auto, unfolding(crate::specs::Shares::kind_at))]
+fn kind_at(shares: &[(Kind, u64)], number: u64) -> Kind
+    ensures { result ≡ kind_at shares.now number }
+{
+    let mut left = number;
+    for (kind, share) in shares {
+        if left < *share {
+            return *kind;
+        }
+        left -= *share;
+    }
+    Kind::Tick
 }

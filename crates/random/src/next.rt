@@ -1,5 +1,7 @@
 // What happens next on a random day.
 ghost use Rattle.line.specs.Steps.{state};
+ghost use Rattle.random.specs.Chances.{coming};
+ghost use Rattle.random.specs.Following.{event_of, plain_event, random_event, some_event, some_message, some_number, some_tick};
 ghost use Rattle.safety.specs.declared.event.Event.{Event};
 ghost use Rattle.safety.specs.Events.{can_be};
 ghost use Rattle.scenario.specs.Lines.{EventFits};
@@ -16,12 +18,15 @@ use scenario::why_not;
 const TRIES: u64 = 16;
 
 // An event that can be next, if any can, and that can be written.
+#[tactic(auto, using(crate::proofs::Tries::all_tries, crate::proofs::Tries::one_cannot, crate::proofs::Tries::none_could))]
 pub fn random_event(line: &Line, kinds: Kinds, chance: &mut Chance) -> Option<Event>
     ensures can_be { IfSome result (λ event. can_be (state line.now.parts) event ≡ true) }
     ensures fits { IfSome result (λ event. EventFits event) }
     ensures none { IfNone result ((event : Event) → can_be (state line.now.parts) event ≡ false) }
+    ensures value { result ≡ (random_event (state line.now.parts) kinds (coming chance.old)).0 }
+    ensures numbers { coming chance.new ≡ (random_event (state line.now.parts) kinds (coming chance.old)).1 }
 {
-    for _ in 0..TRIES {
+    for before in 0..TRIES {
         let event = some_event(line, kinds, chance);
         if why_not(line, event).is_none() {
             return Some(event);
@@ -31,11 +36,12 @@ pub fn random_event(line: &Line, kinds: Kinds, chance: &mut Chance) -> Option<Ev
 }
 
 // Where there is a train or a controller, this can always be.
-#[tactic(auto, using(crate::proofs::Nothing::nothing_can))]
+#[tactic(auto, using(crate::proofs::Nothing::nothing_can), unfolding(crate::specs::Following::plain_event))]
 fn plain_event(line: &Line) -> Option<Event>
     ensures can_be { IfSome result (λ event. can_be (state line.now.parts) event ≡ true) }
     ensures fits { IfSome result (λ event. EventFits event) }
     ensures none { IfNone result ((event : Event) → can_be (state line.now.parts) event ≡ false) }
+    ensures value { result ≡ plain_event (state line.now.parts) }
 {
     if !line.trains().is_empty() {
         Some(Event::Report { train: 0 })
@@ -47,12 +53,25 @@ fn plain_event(line: &Line) -> Option<Event>
 }
 
 // An event that mostly can be.
+#[tactic(auto, unfolding(crate::specs::Following::some_event))]
 fn some_event(line: &Line, kinds: Kinds, chance: &mut Chance) -> Event
-    ensures { EventFits result }
+    ensures fits { EventFits result }
+    ensures value { result ≡ (some_event (state line.now.parts) kinds (coming chance.old)).0 }
+    ensures numbers { coming chance.new ≡ (some_event (state line.now.parts) kinds (coming chance.old)).1 }
 {
     let train = some_number(line.trains().len(), chance);
     let controller = some_number(line.controllers().len(), chance);
-    match kinds.one(chance) {
+    let kind = kinds.one(chance);
+    event_of(kind, line, train, controller, chance)
+}
+
+#[tactic(auto, unfolding(crate::specs::Following::event_of))]
+fn event_of(kind: Kind, line: &Line, train: u64, controller: u64, chance: &mut Chance) -> Event
+    ensures fits { EventFits result }
+    ensures value { result ≡ (event_of kind (state line.now.parts) train controller (coming chance.old)).0 }
+    ensures numbers { coming chance.new ≡ (event_of kind (state line.now.parts) train controller (coming chance.old)).1 }
+{
+    match kind {
         Kind::Tick => some_tick(line, train, chance),
         Kind::Mark => Event::Mark { train },
         Kind::Report => Event::Report { train },
@@ -69,8 +88,11 @@ fn some_event(line: &Line, kinds: Kinds, chance: &mut Chance) -> Event
     }
 }
 
+#[tactic(auto, unfolding(crate::specs::Following::some_tick))]
 fn some_tick(line: &Line, train: u64, chance: &mut Chance) -> Event
-    ensures { EventFits result }
+    ensures fits { EventFits result }
+    ensures value { result ≡ (some_tick (state line.now.parts) train (coming chance.old)).0 }
+    ensures numbers { coming chance.new ≡ (some_tick (state line.now.parts) train (coming chance.old)).1 }
 {
     let Some(here) = line.trains().get(train as usize) else {
         return Event::Report { train };
@@ -81,12 +103,20 @@ fn some_tick(line: &Line, train: u64, chance: &mut Chance) -> Event
 }
 
 // A number below `count`, or 0.
-fn some_number(count: usize, chance: &mut Chance) -> u64 {
+#[tactic(auto, unfolding(crate::specs::Following::some_number))]
+fn some_number(count: usize, chance: &mut Chance) -> u64
+    ensures value { result ≡ (some_number count (coming chance.old)).0 }
+    ensures numbers { coming chance.new ≡ (some_number count (coming chance.old)).1 }
+{
     chance.up_to((count as u64).saturating_sub(1))
 }
 
 // One of the last messages, or of the first, or any: so old ones come late, and many come again.
-fn some_message(line: &Line, chance: &mut Chance) -> u64 {
+#[tactic(auto, unfolding(crate::specs::Following::some_message))]
+fn some_message(line: &Line, chance: &mut Chance) -> u64
+    ensures value { result ≡ (some_message (state line.now.parts) (coming chance.old)).0 }
+    ensures numbers { coming chance.new ≡ (some_message (state line.now.parts) (coming chance.old)).1 }
+{
     let last = (line.sent().len() as u64).saturating_sub(1);
     match chance.up_to(5) {
         0..=2 => last.saturating_sub(chance.up_to(3)),

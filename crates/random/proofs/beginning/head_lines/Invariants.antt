@@ -1,5 +1,5 @@
 use Rattle.std.proofs.Common.{◌≡◌, take}
-use Rattle.random.specs.Days.{head_lines}
+use Rattle.random.specs.Heads.{head_lines}
 use Rattle.random.proofs.beginning.head_lines.Given as goal
 
 abbrev pub invariant-loop-train : goal.invariant-loop-train

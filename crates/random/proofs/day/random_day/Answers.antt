@@ -3,4 +3,4 @@ use Rattle.random.proofs.More.{day_of}
 use Rattle.random.proofs.day.random_day.Goals as goal
 
 pub returns : goal.returns
-returns c = day_of c.args.extent _ (state c.in_ok-line.line.parts) c.in_ok-head.ensures (rw c.deref.ensures.value at c.in_ok-line.ensures) c.in_ok-events.ensures
+returns c = day_of c.args.extent _ (state c.in_ok-line.line.parts) c.in_ok-head.ensures.begins (rw c.deref.ensures.value at c.in_ok-line.ensures) c.in_ok-events.ensures

@@ -1,0 +1,8 @@
+-- The lines of a head. Assumes nothing: these are definitions.
+use Rattle.std.specs.Prelude.{ℕ, List, ◌∷◌, map}
+use Rattle.line.specs.declared.initial.Standing.{Standing}
+use Rattle.scenario.specs.declared.entry.HeadLine.{HeadLine}
+use Rattle.scenario.specs.declared.entry.HeadLine.TheVariants as heads
+
+abbrev pub head_lines : (brake blur controllers : ℕ) → List Standing → List HeadLine
+head_lines brake blur controllers trains = heads.Brake brake ∷ heads.Blur blur ∷ heads.Controllers controllers ∷ map heads.Train trains

@@ -1,0 +1,43 @@
+-- How often each kind of event is drawn. Assumes nothing: these are definitions.
+use Rattle.std.specs.Prelude.{ℕ, ◌-◌, ◌==◌, nat_lt, if◌then◌else◌, List, [], ◌∷◌}
+use Rattle.rand_core.specs.Stream.{Stream}
+use Rattle.random.specs.declared.kinds.Kind.{Kind}
+use Rattle.random.specs.declared.kinds.Kind.TheVariants.{Tick, Mark, Report, Hear, Tell, Grant, Take, Restart}
+use Rattle.random.specs.declared.kinds.Kinds.{Kinds}
+use Rattle.random.specs.declared.kinds.Kinds.TheVariants.{Mixed, Driving, Radio, Even}
+use Rattle.random.specs.Chances.{up_to}
+
+-- which kinds a day has most of
+unfoldable pub some_kinds : Stream → Kinds × Stream
+some_kinds s =
+    let of_six = up_to 5 s in (
+      if of_six.0 == 0 then Driving else
+          if of_six.0 == 1 then Radio else
+          if of_six.0 == 2 then Even else
+          Mixed,
+      of_six.1,
+    )
+
+-- how often each kind comes, of all of these together
+unfoldable pub shares : Kinds → List (Kind × ℕ)
+shares Mixed = (Tick, 12) ∷ (Mark, 2) ∷ (Report, 4) ∷ (Hear, 5) ∷ (Tell, 2) ∷ (Grant, 4) ∷ (Take, 8) ∷ (Restart, 1) ∷ []
+shares Driving = (Tick, 30) ∷ (Mark, 2) ∷ (Report, 2) ∷ (Hear, 2) ∷ (Tell, 1) ∷ (Grant, 2) ∷ (Take, 4) ∷ (Restart, 0) ∷ []
+shares Radio = (Tick, 3) ∷ (Mark, 1) ∷ (Report, 8) ∷ (Hear, 10) ∷ (Tell, 5) ∷ (Grant, 6) ∷ (Take, 12) ∷ (Restart, 1) ∷ []
+shares Even = (Tick, 1) ∷ (Mark, 1) ∷ (Report, 1) ∷ (Hear, 1) ∷ (Tell, 1) ∷ (Grant, 1) ∷ (Take, 1) ∷ (Restart, 1) ∷ []
+
+-- how many shares there are
+unfoldable pub all_shares : Kinds → ℕ
+all_shares Mixed = 38
+all_shares Driving = 43
+all_shares Radio = 46
+all_shares Even = 8
+
+-- the kind that has the share of a number, counted from 0
+unfoldable pub kind_at : List (Kind × ℕ) → ℕ → Kind
+kind_at [] left = Tick
+kind_at (share ∷ shares) left = if nat_lt left share.1 then share.0 else kind_at shares (left - share.1)
+
+unfoldable pub one_of : Kinds → Stream → Kind × Stream
+one_of kinds s =
+    let number = up_to (all_shares kinds - 1) s in
+    (kind_at (shares kinds) number.0, number.1)
