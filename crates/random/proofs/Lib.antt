@@ -1,5 +1,6 @@
 pub mod Drawn
 pub mod Drawing
+pub mod Events
 pub mod Halves
 pub mod Tries
 pub mod Nothing

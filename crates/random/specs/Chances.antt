@@ -4,12 +4,17 @@ use Rattle.std.specs.Prelude.{ℕ, ◌+◌, ◌-◌, ◌^◌, ◌==◌, Bool}
 use Rattle.rand.specs.Uniform.{below_or_word, canon}
 use Rattle.rand_core.specs.Stream.{Stream, next_u64}
 use Rattle.rand_core.specs.Steps.{stream_of, steps_u64_high}
-use Rattle.rand_xoshiro.specs.Xoshiro256.{plus_plus}
+use Rattle.rand_xoshiro.specs.SplitMix64.{splitmix_seed}
+use Rattle.rand_xoshiro.specs.Xoshiro256.{of_seed, plus_plus}
 use Rattle.random.specs.declared.chance.Chance.{Chance}
 
 -- the words that come
 unfoldable pub coming : Chance → Stream
 coming chance = stream_of (steps_u64_high plus_plus) chance.numbers
+
+-- the words of a seed
+unfoldable pub words_of : (seed : ℕ) → Stream
+words_of seed = stream_of (steps_u64_high plus_plus) (of_seed (splitmix_seed 32 seed))
 
 -- a number from 0 to the highest
 unfoldable pub up_to : (highest : ℕ) → Stream → ℕ × Stream

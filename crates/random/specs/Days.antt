@@ -11,6 +11,9 @@ use Rattle.scenario.specs.Lines.{HeadFits, EventFits}
 use Rattle.scenario.specs.Laws.{NoDoubles}
 use Rattle.random.specs.declared.day.Extent.{Extent}
 use Rattle.random.specs.declared.day.Day.{Day}
+use Rattle.random.specs.Beginnings.{random_beginning}
+use Rattle.random.specs.Chances.{words_of}
+use Rattle.random.specs.Following.{events_of_day}
 
 -- a day can begin so, it has no more trains and controllers than were wanted, and it can be written
 pub record Begins (extent : Extent) (head : List HeadLine) : Type 0 where
@@ -31,3 +34,9 @@ pub record Follow (count : ℕ) (s : State) (es : List Event) : Type 0 where
 pub record IsDay (extent : Extent) (day : Day) : Type 0 where
   pub begins : Begins extent day.head.items
   pub follow : Follow extent.events begins.first day.events.items
+
+-- the day that is drawn of a seed: its head, and its events on the line that the head makes
+pub record DrawnBy (seed : ℕ) (extent : Extent) (day : Day) : Type 0 where
+  pub head : day.head.items ≡ (random_beginning extent (words_of seed)).0
+  pub events : (first : State) → new_line (brakes_of day.head.items) (trains_of day.head.items) (controllers_of day.head.items) ≡ Ok first →
+      day.events.items ≡ events_of_day extent.events first (random_beginning extent (words_of seed)).1

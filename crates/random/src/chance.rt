@@ -1,7 +1,5 @@
 // Random numbers that follow from a seed.
-ghost use Rattle.random.specs.Chances.{coming, one_in, up_to};
-ghost use Rattle.rand_xoshiro.specs.SplitMix64.{splitmix_seed};
-ghost use Rattle.rand_xoshiro.specs.Xoshiro256.{of_seed};
+ghost use Rattle.random.specs.Chances.{coming, one_in, up_to, words_of};
 ghost use Rattle.std.specs.Prelude.{◌≡◌, ◌≤◌, true};
 
 use rand::RngExt;
@@ -14,8 +12,9 @@ pub struct Chance {
 }
 
 impl Chance {
+    #[tactic(auto, unfolding(crate::specs::Chances::coming, crate::specs::Chances::words_of))]
     pub fn new(seed: u64) -> Chance
-        ensures { result.numbers ≡ of_seed (splitmix_seed 32 seed) }
+        ensures { coming result ≡ words_of seed }
     {
         Chance {
             numbers: Xoshiro256PlusPlus::seed_from_u64(seed),

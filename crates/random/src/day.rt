@@ -1,7 +1,9 @@
 // A random day.
 ghost use Rattle.line.specs.Initial.{new_line};
 ghost use Rattle.line.specs.Steps.{state};
-ghost use Rattle.random.specs.Days.{Follow, IsDay};
+ghost use Rattle.random.specs.Chances.{coming};
+ghost use Rattle.random.specs.Days.{DrawnBy, Follow, IsDay};
+ghost use Rattle.random.specs.Following.{some_events};
 ghost use Rattle.scenario.specs.Heads.{brakes_of, controllers_of, trains_of};
 ghost use Rattle.std.specs.Prelude.{◌≡◌, IfOk, Ok};
 
@@ -32,7 +34,8 @@ pub struct Day {
 // The day of a seed: as many events as are wanted, each of which can be; none where there is neither train nor
 // controller.
 pub fn random_day(alloc: Global, seed: u64, extent: Extent) -> Result<Day, AllocError>
-    ensures { IfOk result (IsDay extent) }
+    ensures is { IfOk result (IsDay extent) }
+    ensures drawn { IfOk result (DrawnBy seed extent) }
 {
     let mut chance = Chance::new(seed);
     let head = random_beginning(alloc, extent, &mut chance)?;
@@ -50,7 +53,8 @@ fn some_events(
     kinds: Kinds,
     chance: &mut Chance,
 ) -> Result<Vec<Event>, AllocError>
-    ensures { IfOk result (λ events. Follow count (state line.old.parts) events.items) }
+    ensures follow { IfOk result (λ events. Follow count (state line.old.parts) events.items) }
+    ensures drawn { IfOk result (λ events. events.items ≡ some_events kinds count (state line.old.parts) (coming chance.old)) }
 {
     let mut events = Vec::new(alloc);
     for _ in 0..count {
