@@ -1,6 +1,7 @@
 pub mod Drawn
 pub mod Drawing
 pub mod Events
+pub mod Few
 pub mod Halves
 pub mod Tries
 pub mod Nothing

@@ -1,5 +1,5 @@
 -- How often each kind of event is drawn. Assumes nothing: these are definitions.
-use Rattle.std.specs.Prelude.{ℕ, ◌-◌, ◌==◌, nat_lt, if◌then◌else◌, List, [], ◌∷◌}
+use Rattle.std.specs.Prelude.{ℕ, ◌+◌, ◌-◌, ◌==◌, nat_lt, if◌then◌else◌, List, [], ◌∷◌}
 use Rattle.rand_core.specs.Stream.{Stream}
 use Rattle.random.specs.declared.kinds.Kind.{Kind}
 use Rattle.random.specs.declared.kinds.Kind.TheVariants.{Tick, Mark, Report, Hear, Tell, Grant, Take, Restart}
@@ -25,19 +25,17 @@ shares Driving = (Tick, 30) ∷ (Mark, 2) ∷ (Report, 2) ∷ (Hear, 2) ∷ (Tel
 shares Radio = (Tick, 3) ∷ (Mark, 1) ∷ (Report, 8) ∷ (Hear, 10) ∷ (Tell, 5) ∷ (Grant, 6) ∷ (Take, 12) ∷ (Restart, 1) ∷ []
 shares Even = (Tick, 1) ∷ (Mark, 1) ∷ (Report, 1) ∷ (Hear, 1) ∷ (Tell, 1) ∷ (Grant, 1) ∷ (Take, 1) ∷ (Restart, 1) ∷ []
 
--- how many shares there are
-unfoldable pub all_shares : Kinds → ℕ
-all_shares Mixed = 38
-all_shares Driving = 43
-all_shares Radio = 46
-all_shares Even = 8
+-- how many shares there are in all
+unfoldable pub all_of : List (Kind × ℕ) → ℕ
+all_of [] = 0
+all_of (share ∷ rest) = share.1 + all_of rest
 
 -- the kind that has the share of a number, counted from 0
 unfoldable pub kind_at : List (Kind × ℕ) → ℕ → Kind
 kind_at [] left = Tick
-kind_at (share ∷ shares) left = if nat_lt left share.1 then share.0 else kind_at shares (left - share.1)
+kind_at (share ∷ rest) left = if nat_lt left share.1 then share.0 else kind_at rest (left - share.1)
 
 unfoldable pub one_of : Kinds → Stream → Kind × Stream
 one_of kinds s =
-    let number = up_to (all_shares kinds - 1) s in
+    let number = up_to (all_of (shares kinds) - 1) s in
     (kind_at (shares kinds) number.0, number.1)

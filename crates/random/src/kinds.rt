@@ -1,6 +1,6 @@
 // How often each kind of event comes.
 ghost use Rattle.random.specs.Chances.{coming};
-ghost use Rattle.random.specs.Shares.{all_shares, kind_at, one_of, shares, some_kinds};
+ghost use Rattle.random.specs.Shares.{all_of, kind_at, one_of, shares, some_kinds};
 ghost use Rattle.std.specs.Prelude.{◌≡◌, ◌≤◌};
 
 use crate::chance::Chance;
@@ -67,27 +67,27 @@ impl Kinds {
         ]
     }
 
-    #[tactic(auto, unfolding(crate::specs::Shares::one_of))]
+    #[tactic(auto, using(crate::proofs::Few::few_shares), unfolding(crate::specs::Shares::one_of))]
     pub fn one(self, chance: &mut Chance) -> Kind
         ensures value { result ≡ (one_of self (coming chance.old)).0 }
         ensures numbers { coming chance.new ≡ (one_of self (coming chance.old)).1 }
     {
-        let number = chance.up_to(self.all_shares() - 1);
-        kind_at(&self.shares(), number)
+        let shares = self.shares();
+        let number = chance.up_to(all_of(&shares).saturating_sub(1));
+        kind_at(&shares, number)
     }
+}
 
-    #[tactic(auto, unfolding(crate::specs::Shares::all_shares))]
-    fn all_shares(self) -> u64
-        ensures some { 1 ≤ result }
-        ensures value { result ≡ all_shares self }
-    {
-        match self {
-            Kinds::Mixed => 38,
-            Kinds::Driving => 43,
-            Kinds::Radio => 46,
-            Kinds::Even => 8,
-        }
+#[tactic(auto, unfolding(crate::specs::Shares::all_of))]
+fn all_of(shares: &[(Kind, u64)]) -> u64
+    requires { all_of shares.now ≤ 100 }
+    ensures { result ≡ all_of shares.now }
+{
+    let mut all = 0u64;
+    for (_, share) in shares {
+        all += *share;
     }
+    all
 }
 
 // The kind that has the share of a number, counted from 0.
