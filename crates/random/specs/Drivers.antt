@@ -35,8 +35,8 @@ highest_let u = (narrowed_by_turns u 14 (record { lets = 0; refused = speed_max 
 
 -- most often about the highest speed that the unit lets, or a little more than the train has
 unfoldable pub any_wish : Onboard → Stream → ℕ × Stream
-any_wish u s =
-    let of_ten = up_to 9 s in
+any_wish u words =
+    let of_ten = up_to 9 words in
     let more = up_to (min (u.brakes.brake * 3) (2 ^ 64 - 1)) of_ten.1 in
     if of_ten.0 == 0 then (0, of_ten.1) else
     if of_ten.0 == 1 then up_to speed_max of_ten.1 else
@@ -48,14 +48,14 @@ any_wish u s =
     (min (u.speed + more.0) (2 ^ 64 - 1), more.1)
 
 unfoldable pub some_wish : Onboard → Stream → ℕ × Stream
-some_wish u s =
-    let wish = any_wish u s in
+some_wish u words =
+    let wish = any_wish u words in
     (min wish.0 speed_max, wish.1)
 
 -- mostly the fastest
 unfoldable pub some_of_fastest : (fastest : ℕ) → Stream → ℕ × Stream
-some_of_fastest fastest s =
-    let of_six = up_to 5 s in
+some_of_fastest fastest words =
+    let of_six = up_to 5 words in
     if of_six.0 == 0 then (0, of_six.1) else
     if of_six.0 == 1 then up_to fastest of_six.1 else
     if of_six.0 == 2 then up_to fastest of_six.1 else

@@ -7,16 +7,16 @@ use Rattle.random.specs.declared.kinds.Kinds.{Kinds}
 use Rattle.random.specs.declared.kinds.Kinds.TheVariants.{Mixed, Driving, Radio, Even}
 use Rattle.random.specs.Chances.{up_to}
 
--- which kinds a day has most of
+-- which kinds a day has most of: half of all days are mixed
+abbrev pub kinds_of : (of_six : ℕ) → Kinds
+kinds_of of_six =
+    if of_six == 0 then Driving else
+    if of_six == 1 then Radio else
+    if of_six == 2 then Even else
+    Mixed
+
 unfoldable pub some_kinds : Stream → Kinds × Stream
-some_kinds s =
-    let of_six = up_to 5 s in (
-      if of_six.0 == 0 then Driving else
-          if of_six.0 == 1 then Radio else
-          if of_six.0 == 2 then Even else
-          Mixed,
-      of_six.1,
-    )
+some_kinds words = (kinds_of (up_to 5 words).0, (up_to 5 words).1)
 
 -- how often each kind comes, of all of these together
 unfoldable pub shares : Kinds → List (Kind × ℕ)
@@ -36,6 +36,6 @@ kind_at [] left = Tick
 kind_at (share ∷ rest) left = if nat_lt left share.1 then share.0 else kind_at rest (left - share.1)
 
 unfoldable pub one_of : Kinds → Stream → Kind × Stream
-one_of kinds s =
-    let number = up_to (all_of (shares kinds) - 1) s in
+one_of kinds words =
+    let number = up_to (all_of (shares kinds) - 1) words in
     (kind_at (shares kinds) number.0, number.1)
