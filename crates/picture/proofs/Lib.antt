@@ -1,5 +1,6 @@
 pub mod Follows
 pub mod Gaps
-pub mod Shares
 pub mod Scales
+pub mod Shares
+pub mod Signs
 pub mod Trains

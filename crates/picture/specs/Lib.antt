@@ -11,3 +11,4 @@ pub mod Points
 pub mod Scales
 pub mod Tracks
 pub mod Trains
+pub mod Words
