@@ -1,6 +1,9 @@
+pub mod Digits
 pub mod Follows
 pub mod Gaps
 pub mod Scales
+pub mod Shapes
 pub mod Shares
 pub mod Signs
+pub mod Steps
 pub mod Trains

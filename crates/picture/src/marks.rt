@@ -1,6 +1,6 @@
 // The small marks of a picture.
-ghost use Rattle.picture.specs.Marks.{mark_letter, mark_text, marks_text};
-ghost use Rattle.std.specs.Prelude.{◌≡◌, ◌≤◌, ◌++◌, OnOk, Some, string_bytes};
+ghost use Rattle.picture.specs.Marks.{all_marks, mark_letter, mark_text, marks_text, outline, percent, shape_text, shapes_text};
+ghost use Rattle.std.specs.Prelude.{◌≡◌, ◌++◌, OnOk, Some, string_bytes};
 
 use crate::page::Point;
 use std::alloc::AllocError;
@@ -36,7 +36,10 @@ const MARKS: [Mark; 8] = [
 
 impl Mark {
     // It stands around its point, and is not larger than the margin of the frame.
-    fn shape(self) -> &'static str {
+    #[tactic(auto, unfolding(crate::specs::Marks::outline))]
+    fn shape(self) -> &'static str
+        ensures { result.now ≡ outline self }
+    {
         match self {
             Mark::Braked => "M-48,-75H48L0,10z\" fill=\"#d55e00\" stroke=\"#fff\" stroke-width=\"8",
             Mark::Marked =>
@@ -73,24 +76,41 @@ impl fmt::Display for Mark {
 }
 
 // What marks look like, where a picture has so many columns and trains.
-pub fn write_shapes(out: &mut String, columns: u64, trains: u64) -> Result<(), AllocError> {
-    let percent = percent(columns, trains);
-    let whole = percent / 100;
-    let part = percent % 100;
-    for mark in MARKS {
-        let shape = mark.shape();
-        writeln!(out, "<path id=\"{mark}{mark}\" d=\"{shape}\"/>")?;
-        writeln!(
-            out,
-            "<path id=\"{mark}\" transform=\"scale({whole}.{part:02})\" d=\"{shape}\"/>"
-        )?;
+pub fn write_shapes(out: &mut String, columns: u64, trains: u64) -> Result<(), AllocError>
+    ensures { OnOk result (string_bytes out.new ≡ string_bytes out.old ++ shapes_text (percent columns trains) all_marks) }
+{
+    write_sized(out, percent(columns, trains), &MARKS)
+}
+
+fn write_sized(out: &mut String, percent: u64, mut marks: &[Mark]) -> Result<(), AllocError>
+    ensures { OnOk result (string_bytes out.new ≡ string_bytes out.old ++ shapes_text percent marks.now) }
+{
+    while let Some((mark, rest)) = marks.split_first() {
+        write_shape(out, percent, *mark)?;
+        marks = rest;
     }
+    Ok(())
+}
+
+// A mark as it is in the legend, and as it is in the picture.
+fn write_shape(out: &mut String, percent: u64, mark: Mark) -> Result<(), AllocError>
+    ensures { OnOk result (string_bytes out.new ≡ string_bytes out.old ++ shape_text percent mark) }
+{
+    let shape = mark.shape();
+    writeln!(out, "<path id=\"{mark}{mark}\" d=\"{shape}\"/>")?;
+    let whole = percent / 100;
+    let tens = percent / 10 % 10;
+    let ones = percent % 10;
+    writeln!(
+        out,
+        "<path id=\"{mark}\" transform=\"scale({whole}.{tens}{ones})\" d=\"{shape}\"/>"
+    )?;
     Ok(())
 }
 
 // How large marks are: where many events or trains stand side by side they are smaller.
 fn percent(columns: u64, trains: u64) -> u64
-    ensures { result ≤ 100 }
+    ensures { result ≡ percent columns trains }
 {
     let by_columns = 24_000 / columns.max(1);
     let by_trains = 1_600 / trains.max(1);

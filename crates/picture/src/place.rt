@@ -1,6 +1,6 @@
 // Places as numbers of an axis.
-ghost use Rattle.picture.specs.Places.{at_grid, exact, in_unit};
-ghost use Rattle.std.specs.Prelude.{◌≡◌};
+ghost use Rattle.picture.specs.Places.{at_grid, exact, in_unit, place_text};
+ghost use Rattle.std.specs.Prelude.{◌≡◌, Some};
 
 use std::fmt;
 
@@ -54,6 +54,8 @@ impl Place {
 }
 
 impl fmt::Display for Place {
+    ghost output = { λ place. Some (place_text place) };
+
     fn fmt<W: fmt::Write>(&self, f: &mut fmt::Formatter<W>) -> fmt::Result {
         let Place {
             whole,
