@@ -14,6 +14,10 @@ top = 1500
 abbrev pub foot : ℕ
 foot = 8900
 
+-- and the frame is so far outside of them
+abbrev pub margin : ℕ
+margin = 100
+
 -- inside the frame, and so far from it that a mark at the point is inside too
 abbrev pub Inside : (x y : ℕ) → Type 0
 Inside x y = (left ≤ x) × (x ≤ right) × (top ≤ y) × (y ≤ foot)

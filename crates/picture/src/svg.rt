@@ -78,7 +78,7 @@ pub fn write_picture(
     write_marks(out, Mark::Restart, &drawing.restarts)?;
     write_braked(out, &drawing.tracks)?;
     write_frame(out, drawing, heading.refusal.is_some())?;
-    write_labels(out, drawing)?;
+    write_labels(out, &drawing.tracks)?;
     write_legend(out, drawing)?;
     out.push_str("</svg>\n")
 }

@@ -1,8 +1,8 @@
 // The trains of a picture: bands, lines and names.
-ghost use Rattle.picture.specs.Trains.{band_text, braked_text, line_text, train_text, trains_text};
-ghost use Rattle.std.specs.Prelude.{◌≡◌, ◌++◌, OnOk, string_bytes};
+ghost use Rattle.picture.specs.Tracks.{last_of};
+ghost use Rattle.picture.specs.Trains.{apart, band_text, braked_text, label_text, labels_text, line_text, name_level, name_size, name_text, next_level, train_text, trains_text};
+ghost use Rattle.std.specs.Prelude.{◌≡◌, ◌≤◌, ◌++◌, IfOk, OnOk, string_bytes};
 
-use crate::drawing::Drawing;
 use crate::marks::{Mark, write_marks};
 use crate::page::{FOOT, MARGIN, Point, RIGHT, TOP};
 use crate::points::{write_points, write_points_back};
@@ -72,40 +72,81 @@ pub fn write_braked(out: &mut String, mut tracks: &[Track]) -> Result<(), AllocE
 }
 
 // The names of trains, at the right of the frame beside where they are at the end, and not one over another.
-pub fn write_labels(out: &mut String, drawing: &Drawing) -> Result<(), AllocError> {
-    let trains = drawing.tracks.len() as u64;
-    let apart = ((FOOT - TOP) / trains.max(1)).clamp(60, 190);
-    let size = apart * 9 / 10;
+pub fn write_labels(out: &mut String, tracks: &[Track]) -> Result<(), AllocError>
+    ensures { OnOk result (string_bytes out.new ≡ string_bytes out.old ++ labels_text tracks.now) }
+{
+    let trains = tracks.len() as u64;
     let mut next = TOP;
-    for (train, track) in drawing.tracks.iter().enumerate() {
-        let Some(end) = track.lines.fronts.last() else {
-            continue;
-        };
-        let below = trains.saturating_sub(train as u64).saturating_sub(1);
-        let lowest = (FOOT + MARGIN).saturating_sub(below.saturating_mul(apart));
-        let level = end.y.max(next).min(lowest);
-        next = level.saturating_add(apart);
-        write_label(out, train, *end, level, size.min(150))?;
+    for (train, track) in tracks.iter().enumerate() {
+        next = write_name(out, trains, train, next, &track.lines.fronts)?;
     }
     Ok(())
 }
 
+// The name of one of so many trains. Answers from where on the next may stand.
+fn write_name(
+    out: &mut String,
+    trains: u64,
+    train: usize,
+    next: u64,
+    fronts: &[Point],
+) -> Result<u64, AllocError>
+    ensures next { IfOk result (λ after. after ≡ next_level trains train next (last_of fronts.now)) }
+    ensures text { OnOk result (string_bytes out.new ≡ string_bytes out.old ++ name_text trains train next (last_of fronts.now)) }
+{
+    let Some(end) = fronts.last() else {
+        return Ok(next);
+    };
+    let level = name_level(trains, train as u64, next, *end);
+    write_label(out, train, *end, level, name_size(trains))?;
+    Ok(level + apart(trains))
+}
+
+// How far apart the names of so many trains are at least.
+fn apart(trains: u64) -> u64
+    ensures apart { result ≡ apart trains }
+    ensures fits { result ≤ 190 }
+{
+    ((FOOT - TOP) / trains.max(1)).clamp(60, 190)
+}
+
+fn name_size(trains: u64) -> u64
+    ensures size { result ≡ name_size trains }
+    ensures fits { result ≤ 150 }
+{
+    (apart(trains) * 9 / 10).min(150)
+}
+
+// Beside the last front, or below the names so far, and with room for those to come.
+fn name_level(trains: u64, train: u64, next: u64, end: Point) -> u64
+    ensures level { result ≡ name_level trains train next end }
+    ensures fits { result ≤ 9000 }
+{
+    let below = trains.saturating_sub(train).saturating_sub(1);
+    let lowest = (FOOT + MARGIN).saturating_sub(below.saturating_mul(apart(trains)));
+    end.y.max(next).min(lowest)
+}
+
+#[tactic(auto, unfolding(crate::specs::Trains::label_text))]
 fn write_label(
     out: &mut String,
     train: usize,
     end: Point,
     level: u64,
     size: u64,
-) -> Result<(), AllocError> {
+) -> Result<(), AllocError>
+    requires { (level ≤ 9000) × (size ≤ 150) }
+    ensures { OnOk result (string_bytes out.new ≡ string_bytes out.old ++ label_text train end level size) }
+{
     let colour = train % COLOURS;
     let from = RIGHT + MARGIN;
     let front = end.y;
     let middle = from + 180;
     let to = from + 240;
     let x = from + 280;
-    let text = level.saturating_add(size / 3);
+    let y = level + size / 3;
     writeln!(
         out,
-        "<path class=\"lead c{colour}\" d=\"M{from},{front}L{middle},{level}H{to}\"/><text style=\"font-size:{size}px\" x=\"{x}\" y=\"{text}\">train {train}</text>"
+        "<path class=\"lead c{colour}\" d=\"M{from},{front}L{middle},{level}H{to}\"/><text style=\"font-size:{size}px\" x=\"{x}\" y=\"{y}\">train {train}</text>"
     )
 }
