@@ -1,5 +1,6 @@
 pub mod Digits
 pub mod Follows
+pub mod Frames
 pub mod Gaps
 pub mod Scales
 pub mod Shapes

@@ -1,10 +1,13 @@
 -- Round numbers for the lines of a grid. Assumes nothing: these are definitions.
-use Rattle.std.specs.Prelude.{ℕ, zero, suc, ◌-◌, ◌*◌, ◌/◌, ◌^◌, min, max, nat_le, if◌then◌else◌}
+use Rattle.std.specs.Prelude.{ℕ, zero, suc, ◌+◌, ◌-◌, ◌*◌, ◌/◌, ◌^◌, min, max, nat_le, if◌then◌else◌}
 use Rattle.std.specs.Int.{div_ceil}
 
--- so many times a number, or the largest number there is
+-- so many times a number, or so many more, or the largest number there is
 abbrev pub times : (factor number : ℕ) → ℕ
 times factor number = min (number * factor) (2 ^ 64 - 1)
+
+abbrev pub plus : (number more : ℕ) → ℕ
+plus number more = min (number + more) (2 ^ 64 - 1)
 
 -- the first of 1, 2 and 5 times this power of ten, and so on with the next powers, that goes into a range at most so many times
 unfoldable pub step_from : (powers power range most : ℕ) → ℕ

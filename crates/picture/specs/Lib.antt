@@ -1,5 +1,6 @@
 pub mod Drawings
 pub mod Extents
+pub mod Frames
 pub mod Grids
 pub mod Laws
 pub mod Marks

@@ -21,5 +21,5 @@ abbrev pub in_digits : (digits number : ℕ) → List ℕ
 in_digits digits number = replicate (digits - length (decimal number)) 48 ++ decimal number
 
 -- the whole, a point and the digits behind it, if there are any
-abbrev pub place_text : Place → List ℕ
+unfoldable pub place_text : Place → List ℕ
 place_text p = if p.digits == 0 then decimal p.whole else decimal p.whole ++ (codes "." ++ in_digits p.digits p.part)

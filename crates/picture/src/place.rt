@@ -56,6 +56,7 @@ impl Place {
 impl fmt::Display for Place {
     ghost output = { λ place. Some (place_text place) };
 
+    #[tactic(auto, unfolding(crate::specs::Places::place_text))]
     fn fmt<W: fmt::Write>(&self, f: &mut fmt::Formatter<W>) -> fmt::Result {
         let Place {
             whole,

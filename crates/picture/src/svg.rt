@@ -68,7 +68,7 @@ pub fn write_picture(
         "<svg xmlns=\"http://www.w3.org/2000/svg\" width=\"{width}\" height=\"{height}\" viewBox=\"0 0 {PAGE_WIDTH} {PAGE_HEIGHT}\">"
     )?;
     write_heading(out, drawing, heading)?;
-    write_axes(out, drawing)?;
+    write_axes(out, drawing.scale, &drawing.moments)?;
     let messages = &drawing.messages;
     write_grants(out, &messages.hearings)?;
     write_trains(out, &drawing.tracks)?;
