@@ -2,6 +2,8 @@ pub mod Digits
 pub mod Follows
 pub mod Frames
 pub mod Gaps
+pub mod Headings
+pub mod Pictures
 pub mod Scales
 pub mod Shapes
 pub mod Shares

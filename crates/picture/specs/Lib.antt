@@ -2,7 +2,9 @@ pub mod Drawings
 pub mod Extents
 pub mod Frames
 pub mod Grids
+pub mod Headings
 pub mod Laws
+pub mod Legends
 pub mod Marks
 pub mod MessageLines
 pub mod Messages
@@ -11,6 +13,8 @@ pub mod Page
 pub mod Places
 pub mod Points
 pub mod Scales
+pub mod Styles
+pub mod Svg
 pub mod Tracks
 pub mod Trains
 pub mod Words

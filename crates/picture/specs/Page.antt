@@ -1,6 +1,13 @@
 -- The page, and what lies inside its frame. Assumes nothing: these are definitions.
 use Rattle.std.specs.Prelude.{ℕ, ◌≤◌}
 
+-- how large the page is
+abbrev pub page_width : ℕ
+page_width = 16000
+
+abbrev pub page_height : ℕ
+page_height = 11300
+
 -- the points of a graph lie between these, in tenths of a pixel, to the right and downwards
 abbrev pub left : ℕ
 left = 1250

@@ -17,6 +17,7 @@ mod place;
 mod points;
 pub mod scale;
 pub mod sending;
+mod styles;
 pub mod svg;
 pub mod track;
 mod train_lines;
