@@ -3,7 +3,7 @@ use Rattle.std.proofs.Common.{◌≡◌, ℕ, List, ◌++◌, chars, codes, deci
 use Rattle.line.specs.declared.gaps.Gaps.{Gaps}
 use Rattle.picture.specs.declared.drawing.Drawing.{Drawing}
 use Rattle.picture.specs.declared.heading.Heading.{Heading}
-use Rattle.picture.specs.Headings.{count_text, counts_line, counts_text, gaps_text, heading_text, name_text, page_text, refusal_text, title_text, wrong_text}
+use Rattle.picture.specs.Headings.{count_text, counts_line, counts_text, gaps_in_decimetres, heading_text, name_text, page_text, refusal_text, title_text, wrong_text}
 use Rattle.picture.specs.Marks.{all_marks, percent, shapes_text}
 use Rattle.picture.specs.Page.{left}
 use Rattle.picture.specs.Styles.{classes, style_text, widths}
@@ -28,7 +28,7 @@ wrong_written y text old one two all a b c = rw (c, b, a) (simp append_assoc ref
 pub counts_written : (trains events ticks messages : ℕ) (gaps : Gaps) (old one two three four all : List ℕ) →
     one ≡ old ++ count_text trains (codes "train") (codes ", ") → two ≡ one ++ count_text events (codes "event") (codes ": ") →
     three ≡ two ++ count_text ticks (codes "tick") (codes ", ") → four ≡ three ++ count_text messages (codes "message") (codes " sent; ") →
-    all ≡ four ++ gaps_text gaps → all ≡ old ++ counts_text trains events ticks messages gaps
+    all ≡ four ++ gaps_in_decimetres gaps → all ≡ old ++ counts_text trains events ticks messages gaps
 counts_written trains events ticks messages gaps old one two three four all a b c d e = rw (e, d, c, b, a) (simp append_assoc refl)
 
 pub counts_line_written : (d : Drawing) (gaps : Gaps) (old one two all : List ℕ) → one ≡ old ++ (codes "<text x=\"" ++ (decimal left ++ codes "\" y=\"730\">")) →

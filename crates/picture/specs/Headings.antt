@@ -2,6 +2,7 @@
 use Rattle.std.specs.Prelude.{ℕ, ◌==◌, Option, Some, None, List, [], ◌++◌, if◌then◌else◌, chars, codes, decimal, length}
 use Rattle.std.specs.Borrow.{Bor}
 use Rattle.line.specs.declared.gaps.Gaps.{Gaps}
+use Rattle.line.specs.Words.{gaps_text}
 use Rattle.picture.specs.declared.drawing.Drawing.{Drawing}
 use Rattle.picture.specs.declared.heading.Heading.{Heading}
 use Rattle.picture.specs.Page.{left, page_height, page_width}
@@ -23,18 +24,18 @@ page_text = codes "<rect class=\"page\" width=\"" ++ (decimal page_width ++ (cod
 unfoldable pub count_text : (count : ℕ) → (name after : List ℕ) → List ℕ
 count_text count name after = decimal count ++ (codes " " ++ (name ++ ((if count == 1 then [] else codes "s") ++ after)))
 
--- how many gaps were looked at, and the smallest of them, if there is one
-abbrev pub counted : (count : ℕ) → (smallest : Option ℕ) → List ℕ
-counted count None = decimal count ++ codes " gaps"
-counted count (Some smallest) = decimal count ++ (codes " gaps, smallest " ++ (decimal smallest ++ codes " decimetres"))
+-- the gaps, with the unit of the smallest of them, if there is one
+abbrev pub unit_of : (smallest : Option ℕ) → List ℕ
+unit_of None = []
+unit_of (Some smallest) = codes " decimetres"
 
-abbrev pub gaps_text : Gaps → List ℕ
-gaps_text gaps = counted gaps.count gaps.smallest
+abbrev pub gaps_in_decimetres : Gaps → List ℕ
+gaps_in_decimetres gaps = gaps_text gaps ++ unit_of gaps.smallest
 
 abbrev pub counts_text : (trains events ticks messages : ℕ) → Gaps → List ℕ
 counts_text trains events ticks messages gaps =
     count_text trains (codes "train") (codes ", ") ++ (count_text events (codes "event") (codes ": ") ++ (count_text ticks (codes "tick") (codes ", ") ++
-    (count_text messages (codes "message") (codes " sent; ") ++ gaps_text gaps)))
+    (count_text messages (codes "message") (codes " sent; ") ++ gaps_in_decimetres gaps)))
 
 unfoldable pub counts_line : Drawing → Gaps → List ℕ
 counts_line d gaps =

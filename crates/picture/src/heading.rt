@@ -1,5 +1,5 @@
 // What is written above a picture.
-ghost use Rattle.picture.specs.Headings.{count_text, counts_line, counts_text, gaps_text, heading_text, name_text, page_text, refusal_text, title_text, wrong_lines, wrong_text};
+ghost use Rattle.picture.specs.Headings.{count_text, counts_line, counts_text, gaps_in_decimetres, heading_text, name_text, page_text, refusal_text, title_text, wrong_lines, wrong_text};
 ghost use Rattle.std.specs.Prelude.{◌≡◌, ◌++◌, OnOk, length, string_bytes};
 
 use crate::drawing::Drawing;
@@ -137,11 +137,11 @@ fn write_count(out: &mut String, count: u64, name: &str, after: &str) -> Result<
 }
 
 fn write_gaps(out: &mut String, gaps: Gaps) -> Result<(), AllocError>
-    ensures { OnOk result (string_bytes out.new ≡ string_bytes out.old ++ gaps_text gaps) }
+    ensures { OnOk result (string_bytes out.new ≡ string_bytes out.old ++ gaps_in_decimetres gaps) }
 {
-    let count = gaps.count;
-    match gaps.smallest {
-        None => write!(out, "{count} gaps"),
-        Some(smallest) => write!(out, "{count} gaps, smallest {smallest} decimetres"),
+    write!(out, "{gaps}")?;
+    if gaps.smallest.is_some() {
+        out.push_str(" decimetres")?;
     }
+    Ok(())
 }
