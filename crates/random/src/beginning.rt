@@ -166,6 +166,7 @@ fn foremost(limit: u64, base: u64, scale: u64, chance: &mut Chance) -> Standing
     standing(base.min(end), end, scale, chance)
 }
 
+// How far the first train may go.
 #[tactic(auto, unfolding(crate::specs::Beginnings::some_room))]
 fn some_room(limit: u64, scale: u64, chance: &mut Chance) -> u64
     requires limit { limit ≤ place_max }

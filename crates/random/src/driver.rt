@@ -25,6 +25,7 @@ pub fn some_wish(unit: Onboard, chance: &mut Chance) -> u64
     any_wish(unit, chance).min(SPEED_MAX)
 }
 
+// That wish, which may still be above the highest speed that there is.
 #[tactic(auto, unfolding(crate::specs::Drivers::any_wish))]
 fn any_wish(unit: Onboard, chance: &mut Chance) -> u64
     ensures value { result ≡ (any_wish unit (coming chance.old)).0 }
@@ -66,6 +67,7 @@ fn highest_let(unit: Onboard) -> u64
     bounds.lets
 }
 
+// One turn of that search: the speed in the middle takes the place of one of the bounds.
 #[tactic(auto, unfolding(crate::specs::Drivers::narrowed))]
 fn narrowed(unit: Onboard, bounds: Bounds) -> Bounds
     requires lets { bounds.lets ≤ 10001 }
@@ -117,6 +119,7 @@ pub fn some_speed(line: &Line, train: u64, wish: u64, chance: &mut Chance) -> u6
     some_of_fastest(fastest, chance)
 }
 
+// Half of the time that highest speed, and sometimes none at all.
 #[tactic(auto, unfolding(crate::specs::Drivers::some_of_fastest))]
 fn some_of_fastest(fastest: u64, chance: &mut Chance) -> u64
     ensures high { result ≤ fastest }

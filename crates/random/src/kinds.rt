@@ -78,6 +78,7 @@ impl Kinds {
     }
 }
 
+// How many shares there are in all.
 #[tactic(auto, unfolding(crate::specs::Shares::all_of))]
 fn all_of(shares: &[(Kind, u64)]) -> u64
     requires { all_of shares.now ≤ 100 }

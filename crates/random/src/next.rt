@@ -65,6 +65,7 @@ fn some_event(line: &Line, kinds: Kinds, chance: &mut Chance) -> Event
     event_of(kind, line, train, controller, chance)
 }
 
+// An event of the kind.
 #[tactic(auto, unfolding(crate::specs::Following::event_of))]
 fn event_of(kind: Kind, line: &Line, train: u64, controller: u64, chance: &mut Chance) -> Event
     ensures fits { EventFits result }
