@@ -317,6 +317,9 @@ class Editor:
             self.add(token.at, self.tokens[self.closing(number + 1)].end, "None")
         if token.text in ("Ok", "Err") and after and after.text == "(":
             self.of_outcome(number, token)
+        if after and after.text == "(" and token.text != self.body.function:
+            for other in self.cases.functions_like(token.text)[:2]:
+                self.add(token.at, token.end, other)
         if follows and token.text in STEPS and after and after.text == "(":
             self.add(before.at, self.tokens[self.closing(number + 1)].end, "")
         if before is not None and before.text in ("::", ".") and not (after and after.text == "("):
@@ -334,12 +337,17 @@ class Editor:
         return is_first and after.text in (")", ",", ";", "==", "<", "<=", ">", ">=", "+", "-", "*", "/", "%", "}", "{", "]")
 
     def of_operand(self, token):
-        """One more than a number, and 0; and another value of the function in its place."""
+        """One more than a number, one less, and 0; the other answer; nothing of a list; and another value of the function."""
         of = self.locals[token.text]
         if of in ("", *NUMBERS):
             self.add(token.at, token.end, f"{token.text}.saturating_add(1)")
         if of in NUMBERS:
+            self.add(token.at, token.end, f"{token.text}.saturating_sub(1)")
             self.add(token.at, token.end, "0")
+        if of == "bool":
+            self.add(token.at, token.end, f"!{token.text}")
+        if of.startswith("&["):
+            self.add(token.at, token.end, "&[]")
         for other, other_of in self.locals.items():
             if other != token.text and (not of or not other_of or of == other_of):
                 self.add(token.at, token.end, other)
@@ -421,6 +429,8 @@ class Editor:
         text = self.source.text
         for (one, first), (other, second) in zip(named, named[1:]):
             values = [text[self.tokens[it[0]].at : self.tokens[it[1] - 1].end] for it in (first, second)]
+            if values[0] == values[1]:
+                continue
             start = self.tokens[first[0] if first[1] - first[0] == 1 and self.tokens[first[0]].text == one else first[0] - 2].at
             self.add(start, self.tokens[second[1] - 1].end, f"{one}: {values[1]}, {other}: {values[0]}")
 
@@ -429,7 +439,8 @@ class Editor:
         first = text[self.tokens[one[0]].at : self.tokens[one[1] - 1].end]
         second = text[self.tokens[other[0]].at : self.tokens[other[1] - 1].end]
         between = text[self.tokens[one[1] - 1].end : self.tokens[other[0]].at]
-        self.add(self.tokens[one[0]].at, self.tokens[other[1] - 1].end, f"{second}{between}{first}")
+        if first != second:
+            self.add(self.tokens[one[0]].at, self.tokens[other[1] - 1].end, f"{second}{between}{first}")
 
     def of_branch(self, number):
         """A condition that always holds, and one that never does."""
@@ -487,18 +498,28 @@ class Editor:
 
 
 class Cases:
-    """The cases of enums and the fields of structs, by those of one form: each can stand for another."""
+    """The cases of enums, the fields of structs and the functions, by those of one form: each can stand for another."""
 
     def __init__(self, folders):
-        self.alike = []
+        self.alike, self.forms = [], {}
         for folder in folders:
             for file in sorted(os.listdir(f"{folder}/src")):
                 if file.endswith(".rt"):
                     with open(f"{folder}/src/{file}", encoding="utf-8") as it:
                         self.read(it.read())
 
+    def functions_like(self, name):
+        """Functions that are given the same and hand back the same."""
+        forms = {form for form, names in self.forms.items() if name in names}
+        return [it for form in sorted(forms) for it in self.forms[form] if it != name]
+
     def read(self, text):
         text = re.sub(r"//[^\n]*", "", text)
+        for name, given, back in re.findall(r"\bfn (\w+)\(([^)]*)\)([^{]*?)(?:\brequires\b|\bensures\b|\{)", text):
+            types = [it.split(":")[-1].strip() for it in given.split(",") if it.strip()]
+            names = self.forms.setdefault((*types, " ".join(back.split())), [])
+            if name not in names:
+                names.append(name)
         for kind, name, inside in re.findall(r"\b(enum|struct) (\w+)[^{;]*\{(.*?)\n\}", text, re.S):
             forms = {}
             if kind == "enum":
