@@ -7,5 +7,6 @@ pub mod Heads
 pub mod Written
 pub mod Faults
 pub mod Reasons
+pub mod Told
 pub mod Laws
 pub mod Inside

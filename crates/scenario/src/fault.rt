@@ -3,8 +3,11 @@ ghost use Rattle.scenario.specs.Faults.{FaultAt, FirstFault, FitsPart, FoundAt, 
 ghost use Rattle.braking.specs.Limits.{speed_max};
 ghost use Rattle.scenario.specs.declared.fault.Part.{Part};
 ghost use Rattle.scenario.specs.declared.fault.Part.TheVariants.{Wish};
+ghost use Rattle.scenario.specs.Told.{fault_text, part_text};
 ghost use Rattle.scenario.specs.Words.{words};
-ghost use Rattle.std.specs.Prelude.{◌≡◌, ◌≢◌, ◌≤◌, ◌+◌, ◌∷◌, decimal, ℕ, suc, List, IfNone, IfSome, drop, false, true};
+ghost use Rattle.std.specs.Char.{is_ascii_graphic};
+ghost use Rattle.std.specs.List.{list_all};
+ghost use Rattle.std.specs.Prelude.{◌≡◌, ◌≢◌, ◌≤◌, ◌+◌, ◌∷◌, decimal, ℕ, suc, List, IfNone, IfSome, Some, drop, false, true};
 
 use crate::keyword::Keyword;
 use crate::parts::number;
@@ -177,6 +180,9 @@ fn is_wish(word: &str) -> bool
 }
 
 impl fmt::Display for Part {
+    ghost output = { λ part. Some (part_text part) };
+
+    #[tactic(auto, unfolding(crate::specs::Told::keywords_text, crate::specs::Told::number_text))]
     fn fmt<W: fmt::Write>(&self, f: &mut fmt::Formatter<W>) -> fmt::Result {
         match *self {
             Part::Keyword => f.write_str(
@@ -197,6 +203,8 @@ impl fmt::Display for Part {
 const SHOWN_MAX: usize = 40;
 
 impl<'a> fmt::Display for Fault<'a> {
+    ghost output = { λ fault. Some (fault_text fault) };
+
     fn fmt<W: fmt::Write>(&self, f: &mut fmt::Formatter<W>) -> fmt::Result {
         let expected = self.expected;
         write!(f, "expected {expected}, found ")?;
@@ -212,6 +220,8 @@ impl<'a> fmt::Display for Fault<'a> {
 }
 
 // Whether a terminal shows each of its bytes as one sign.
-fn is_plain(word: &str) -> bool {
+fn is_plain(word: &str) -> bool
+    ensures { result ≡ list_all is_ascii_graphic word.now }
+{
     word.as_bytes().iter().all(|byte| byte.is_ascii_graphic())
 }

@@ -3,10 +3,11 @@ ghost use Rattle.line.specs.Steps.{state};
 ghost use Rattle.message.specs.Bytes.{received};
 ghost use Rattle.onboard.specs.Train as onboard;
 ghost use Rattle.scenario.specs.Reasons.{reason_of, unless};
+ghost use Rattle.scenario.specs.Told.{why_not_text};
 ghost use Rattle.scenario.specs.declared.impossible.WhyNot.TheVariants.{NoController, NoGrant, NoTrain, NotSent};
 ghost use Rattle.safety.specs.Events.{can_be, has_controller, has_message, has_train, may_be_taken};
 ghost use Rattle.safety.specs.State.{message_at, train_at};
-ghost use Rattle.std.specs.Prelude.{◌≡◌, ◌&&◌, IfNone, IfSome, None, false, true};
+ghost use Rattle.std.specs.Prelude.{◌≡◌, ◌&&◌, IfNone, IfSome, None, Some, false, true};
 
 use line::Line;
 use message::{Message, read};
@@ -123,6 +124,9 @@ fn fastest(line: &Line, train: u64, wish: u64) -> u64
 }
 
 impl fmt::Display for WhyNot {
+    ghost output = { λ why. Some (why_not_text why) };
+
+    #[tactic(auto, unfolding(crate::specs::Told::no_grant_text))]
     fn fmt<W: fmt::Write>(&self, f: &mut fmt::Formatter<W>) -> fmt::Result {
         match *self {
             WhyNot::NoTrain { train } => write!(f, "there is no train {train}"),

@@ -1,7 +1,8 @@
 // Why a day cannot begin with a train as it is given, and what would be right.
 ghost use Rattle.line.specs.Initial.{fits};
 ghost use Rattle.scenario.specs.Reasons.{misplaced_by};
-ghost use Rattle.std.specs.Prelude.{◌≡◌, is_none};
+ghost use Rattle.scenario.specs.Told.{misplaced_text};
+ghost use Rattle.std.specs.Prelude.{◌≡◌, Some, is_none};
 
 use line::Standing;
 use std::fmt;
@@ -37,6 +38,8 @@ pub fn misplaced_by(train: Standing, limit: u64) -> Option<Misplaced>
 }
 
 impl fmt::Display for Misplaced {
+    ghost output = { λ it. Some (misplaced_text it) };
+
     fn fmt<W: fmt::Write>(&self, f: &mut fmt::Formatter<W>) -> fmt::Result {
         match *self {
             Misplaced::Length => f.write_str("a train's length is at most its front"),
