@@ -2,6 +2,7 @@ pub mod Cuts
 pub mod Decimals
 pub mod Entries
 pub mod TextLines
+pub mod GoingOn
 pub mod Readings
 pub mod Places
 pub mod OneReading

@@ -1,5 +1,5 @@
 -- Events that stand as they are written.
-use Rattle.std.proofs.Common.{◌≡◌, ℕ, ◌+◌, ◌-◌, ◌*◌, ◌<◌, ◌≤◌, ◌^◌, List, [], ◌∷◌, ◌++◌, length, take, drop, get_or, decimal, refl, ap, sym, ◌∙◌, arith, append_assoc, codes, Option, Some, None, IfSome, Bor, Bool, true, false, subst, length-append}
+use Rattle.std.proofs.Common.{◌≡◌, ◌==◌, ℕ, ◌+◌, ◌-◌, ◌*◌, ◌<◌, ◌≤◌, ◌^◌, List, [], ◌∷◌, ◌++◌, length, take, drop, get_or, decimal, refl, ap, sym, ◌∙◌, arith, append_assoc, codes, Option, Some, None, IfSome, Bor, Bool, true, false, subst, length-append}
 use Rattle.std.specs.Bool.{Decides}
 use Rattle.std.specs.Cmp.Lexicographic.{pointwise}
 use Rattle.std.specs.Char.{digit_value}
@@ -9,6 +9,7 @@ use Rattle.std.proofs.lemmas.Str.{digit_value_digit}
 use Rattle.std.proofs.lemmas.Str.Parse.{digit_from_value}
 use Rattle.std.proofs.lemmas.List.{length-take-le, take-append-drop, take_rest, get_or-take, drop_at}
 use Rattle.std.proofs.lemmas.Slice.Eq.{strip_prefix_is}
+use Rattle.std.specs.List.{after_first}
 use Rattle.std.specs.Option.{MatchOption}
 use Rattle.scenario.specs.Written.{joined, line_text}
 use Rattle.scenario.specs.Inside.{AreDigits}
@@ -17,7 +18,7 @@ use Rattle.scenario.specs.declared.entry.Entry.TheVariants as entries
 use Rattle.scenario.specs.Lines.{EventFits, event_words}
 use Rattle.scenario.specs.Texts.{EventsRead, said_from, text_lines}
 use Rattle.scenario.proofs.Decimals.{own}
-use Rattle.scenario.proofs.ReadBack.{said_entry}
+use Rattle.scenario.proofs.ReadBack.{entry_passed, said_entry}
 
 pub one_more_digit : (text : List ℕ) (count number more : ℕ) → count < length text → AreDigits text count number →
     digit_value (get_or text count 0) < 10 → more ≡ get_or text count 0 - 48 → AreDigits text (count + 1) (number * 10 + more)
@@ -73,12 +74,23 @@ tick_written train wish speed text second third fourth fifth rest a b c d e =
     two_more_words (codes "tick") train (codes "wish") (wish ∷ codes "speed" ∷ speed ∷ []) text second rest a
     (b ∙ two_more_words (codes "wish") wish (codes "speed") (speed ∷ []) third fourth rest c (d ∙ one_more_word (codes "speed") speed [] fifth rest e))
 
+-- what is left after an event that stands as it is written
+left_after : (read : ℕ) (text rest cut : List ℕ) (event : Event) → text ≡ line_text (event_words event) ++ rest →
+    read ≡ length text - length rest → cut ≡ drop read text → cut ≡ rest
+left_after read text rest cut event is count drops =
+    let before : length (line_text (event_words event)) ≡ read = omega (arith, count, ap length is, length-append (line_text (event_words event)) rest) in
+    drops ∙ ap (drop read) is ∙ drop_at (line_text (event_words event)) rest read before
+
+pub plain_passed : (read : ℕ) (text rest cut : List ℕ) (event : Event) → EventFits event → text ≡ line_text (event_words event) ++ rest →
+    read ≡ length text - length rest → cut ≡ drop read text → cut ≡ after_first (λ byte. byte == 10) text
+plain_passed read text rest cut event fits is count drops =
+    left_after read text rest cut event is count drops ∙ sym (ap (after_first (λ byte. byte == 10)) is ∙ entry_passed (entries.Event event) fits rest)
+
 -- an event that stands as it is written is the next that a text says
 pub plain_read : (n read : ℕ) (text rest cut : List ℕ) (event : Event) → EventFits event → text ≡ line_text (event_words event) ++ rest →
     read ≡ length text - length rest → cut ≡ drop read text → EventsRead (said_from n (text_lines text)) (n ∷ []) (event ∷ []) (said_from (n + 1) (text_lines cut))
 plain_read n read text rest cut event fits is count drops =
-    let before : length (line_text (event_words event)) ≡ read = omega (arith, count, ap length is, length-append (line_text (event_words event)) rest) in
-    let same : cut ≡ rest = drops ∙ ap (drop read) is ∙ drop_at (line_text (event_words event)) rest read before in
+    let same : cut ≡ rest = left_after read text rest cut event is count drops in
     let said = ap (λ text. said_from n (text_lines text)) is ∙ said_entry n (entries.Event event) fits rest in
     subst (λ text. EventsRead text (n ∷ []) (event ∷ []) (said_from (n + 1) (text_lines cut))) (sym said)
     (refl, refl, fits, ap (λ text. said_from (n + 1) (text_lines text)) (sym same))

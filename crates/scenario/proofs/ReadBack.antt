@@ -1,6 +1,6 @@
 -- What is written is read again.
-use Rattle.std.proofs.Common.{◌≡◌, ◌≢◌, ◌==◌, ℕ, zero, suc, ◌+◌, ◌-◌, ◌<◌, List, [], ◌∷◌, ◌++◌, length, append_assoc, get_or, decimal, Bool, false, true, ◌&&◌, nat_lt, refl, ap, sym, subst, ◌∙◌, arith}
-use Rattle.std.specs.List.{All, AllByRecursion, list_all}
+use Rattle.std.proofs.Common.{◌≡◌, ◌≢◌, ◌==◌, ℕ, zero, suc, ◌+◌, ◌-◌, ◌<◌, List, [], ◌∷◌, ◌++◌, length, drop, append_assoc, get_or, decimal, Bool, false, true, ◌&&◌, nat_lt, refl, ap, sym, subst, ◌∙◌, arith}
+use Rattle.std.specs.List.{All, AllByRecursion, list_all, after_first, position_or_len}
 use Rattle.std.specs.Str.Lines.{strip_carriage_return}
 use Rattle.std.specs.Char.{digit_value}
 use Rattle.std.specs.Str.Parse.{AllDigits}
@@ -164,6 +164,21 @@ no_feed byte is = grind (arith, nat_tests, is)
 line_cut : (line rest : List ℕ) → list_all line_byte line ≡ true → text_lines (line ++ 10 ∷ rest) ≡ line ∷ text_lines rest
 unfolding text_lines
 line_cut line rest all = slice_split_at (λ byte. byte == 10) line 10 rest (all_so line_byte (λ byte. byte == 10) line no_feed all) refl
+
+feed_found : (line rest : List ℕ) → list_all line_byte line ≡ true → after_first (λ byte. byte == 10) (line ++ 10 ∷ rest) ≡ rest
+unfolding line_byte
+feed_found [] rest all = refl
+feed_found (byte ∷ line) rest all =
+    let parts = both (line_byte byte) (list_all line_byte line) all in
+    let at : ℕ = position_or_len (λ byte. byte == 10) (line ++ 10 ∷ rest) in
+    let more : 1 + at + 1 ≡ suc (at + 1) = omega arith in
+    rw (no_feed byte parts.0) (ap (λ n. drop n (byte ∷ (line ++ 10 ∷ rest))) more ∙ feed_found line rest parts.1)
+
+-- what comes after the line of an entry
+pub entry_passed : (entry : Entry) → Fits entry → (rest : List ℕ) → after_first (λ byte. byte == 10) (line_text (entry_words entry) ++ rest) ≡ rest
+entry_passed entry fits rest =
+    ap (after_first (λ byte. byte == 10)) (append_assoc (joined (entry_words entry)) (10 ∷ []) rest)
+    ∙ feed_found (joined (entry_words entry)) rest (line_bytes (entry_words entry) (entry_is_written entry fits))
 
 pub said_entry : (n : ℕ) (entry : Entry) → Fits entry → (rest : List ℕ) →
     said_from n (text_lines (line_text (entry_words entry) ++ rest)) ≡ record { line = n; words = entry_words entry } ∷ said_from (n + 1) (text_lines rest)

@@ -5,7 +5,7 @@ use Rattle.std.specs.Option.{unwrap_or, MatchOption}
 use Rattle.std.specs.Str.Lines.{strip_carriage_return}
 use Rattle.std.specs.Str.Pattern.{FindsCharSuffix}
 use Rattle.std.proofs.Math.Seq.{take-append_seam}
-use Rattle.std.proofs.lemmas.List.{get_or_push, length_push, take_more, take_all}
+use Rattle.std.proofs.lemmas.List.{get_or_push, length_push, take_more, take_all, drop_all}
 use Rattle.std.proofs.lemmas.Bool.Decides.{nat_tests}
 use Rattle.std.proofs.lemmas.List.Splits.{slice_split_none, slice_split_first}
 use Rattle.std.proofs.lemmas.List.Sums.{fails_before_first}
@@ -39,6 +39,19 @@ taken n text None all is line rest = rw (last_line text (split_once_first 10 tex
 taken n text (Some parts) all is line rest =
     let first = split_once_first 10 text (Some parts) is (omega arith) in
     rw (first_line text first.0, first.1, first.2) refl
+
+-- the line is what stands before the first line feed, and the rest what stands after it
+pub cut_at_feed : (text : List ℕ) (cut : Option (Bor (List ℕ) × Bor (List ℕ))) (all : Bor (List ℕ) × Bor (List ℕ)) →
+    IsSplitOnceResult 10 text cut → all.0.now ≡ text → all.1.now ≡ [] →
+    ((unwrap_or cut all).0.now ≡ before_first (λ byte. byte == 10) text) × ((unwrap_or cut all).1.now ≡ after_first (λ byte. byte == 10) text)
+cut_at_feed text None all is line rest =
+    let end = split_once_first 10 text None is (omega arith) in (
+      line ∙ sym (take_all (position_or_len (λ byte. byte == 10) text) text (omega (arith, end))),
+      rest ∙ sym (drop_all (position_or_len (λ byte. byte == 10) text + 1) text (omega (arith, end))),
+    )
+cut_at_feed text (Some parts) all is line rest =
+    let first = split_once_first 10 text (Some parts) is (omega arith) in
+    (first.1, first.2)
 
 -- a carriage return at the end of a line
 with_return : (line : List ℕ) → strip_carriage_return (line ++ 13 ∷ []) ≡ line

@@ -1,6 +1,6 @@
 -- What the lines of a text say. Assumes nothing: these are definitions.
-use Rattle.std.specs.Prelude.{◌≡◌, ℕ, false, Bool, true, ◌==◌, ◌+◌, List, [], ◌∷◌, ◌++◌, if◌then◌else◌, slice_index}
-use Rattle.std.specs.List.{slice_split, list_any}
+use Rattle.std.specs.Prelude.{◌≡◌, ℕ, zero, suc, ◌≤◌, false, Bool, true, ◌==◌, ◌+◌, ◌-◌, List, [], ◌∷◌, ◌++◌, if◌then◌else◌, slice_index}
+use Rattle.std.specs.List.{slice_split, list_any, before_first, after_first, fold}
 use Rattle.std.specs.Str.Lines.{strip_carriage_return}
 use Rattle.scenario.specs.declared.left.Reader.{Reader}
 use Rattle.safety.specs.declared.event.Event.{Event}
@@ -42,6 +42,29 @@ said text = said_from 0 (text_lines text)
 -- what a reader has still to read
 abbrev pub left : Reader → List Said
 left reader = said_from reader.line (text_lines reader.rest.now)
+
+-- what stands of a text after its first lines, as many as `count`
+abbrev pub after_lines : (count : ℕ) → List ℕ → List ℕ
+after_lines zero text = text
+after_lines (suc count) text = after_first (λ byte. byte == 10) (after_lines count text)
+
+-- its line of a number, counted from 0, without the line end
+abbrev pub line_at : ℕ → List ℕ → List ℕ
+line_at n text = strip_carriage_return (before_first (λ byte. byte == 10) (after_lines n text))
+
+-- a reader has gone on over whole lines
+abbrev pub GoneOn : (from to : Reader) → Type 0
+GoneOn from to = (from.line ≤ to.line) × (to.rest.now ≡ after_lines (to.line - from.line) from.rest.now)
+
+-- the line after the first of what is said, as many as `count`; line n where there is none
+abbrev pub line_past : (n count : ℕ) → List Said → ℕ
+line_past n zero said = n
+line_past n (suc count) [] = n
+line_past n (suc count) (next ∷ said) = line_past (next.line + 1) count said
+
+-- the line after the last of these
+abbrev pub line_after : (n : ℕ) → List ℕ → ℕ
+line_after = fold (λ before line. line + 1)
 
 -- whether two lines give the same thing, of those that come only once
 abbrev pub same_kind : HeadLine → HeadLine → Bool
