@@ -19,7 +19,7 @@ number_written word (Err e) parses plain = tt
 length_zero : (n : ℕ) → n ≡ 0 → length (decimal n) ≡ 1
 length_zero n is = rw is (ap length (decimal_digit 0 (omega arith)))
 
-decimal_plain : (n : ℕ) → n < 2 ^ 64 → IsPlain (decimal n)
+pub decimal_plain : (n : ℕ) → n < 2 ^ 64 → IsPlain (decimal n)
 decimal_plain n small = (
   not_in_digits own (decimal n) 43 (digits_decimal own n small) (λ digit. omega (arith, digit.1, digit.0)) 0 (decimal_nonempty n small),
   grind (arith, first_decimal n, length_zero n),

@@ -9,3 +9,4 @@ pub mod OneReading
 pub mod ReadBack
 pub mod FaultPlaces
 pub mod Plain
+pub mod OnePass

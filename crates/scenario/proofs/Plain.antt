@@ -1,5 +1,5 @@
 -- Events that stand as they are written.
-use Rattle.std.proofs.Common.{◌≡◌, ◌==◌, ℕ, ◌+◌, ◌-◌, ◌*◌, ◌<◌, ◌≤◌, ◌^◌, List, [], ◌∷◌, ◌++◌, length, take, drop, get_or, decimal, refl, ap, sym, ◌∙◌, arith, append_assoc, codes, Option, Some, None, IfSome, Bor, Bool, true, false, subst, length-append}
+use Rattle.std.proofs.Common.{◌≡◌, ◌==◌, ℕ, ◌+◌, ◌-◌, ◌*◌, ◌<◌, ◌≤◌, ◌^◌, List, [], ◌∷◌, ◌++◌, length, take, drop, get_or, decimal, refl, ap, sym, ◌∙◌, arith, append_assoc, codes, Option, Some, None, IfNone, IfSome, ◌≢◌, Bor, Bool, true, false, subst, length-append}
 use Rattle.std.specs.Bool.{Decides}
 use Rattle.std.specs.Cmp.Lexicographic.{pointwise}
 use Rattle.std.specs.Char.{digit_value}
@@ -45,6 +45,13 @@ pub word_taken : {E : ℕ → ℕ → Bool} (decides : (a b : ℕ) → Decides (
     IfSome found (λ rest. text ≡ word ++ rest.now)
 word_taken decides text word None is = tt
 word_taken decides text word (Some rest) is = strip_prefix_is decides text word (Some rest) is
+
+pub word_missing : {E : ℕ → ℕ → Bool} (decides : (a b : ℕ) → Decides (E a b) (a ≡ b)) (text word : List ℕ) (found : Option (Bor (List ℕ))) →
+    MatchOption found (pointwise E (take (length word) text) word ≡ false)
+    (λ x. (pointwise E (take (length word) text) word ≡ true) × (x.now ≡ drop (length word) text) × (length x.now + length word ≡ length text)) →
+    IfNone found ((more : List ℕ) → text ≢ word ++ more)
+word_missing decides text word None is = strip_prefix_is decides text word None is
+word_missing decides text word (Some rest) is = tt
 
 -- written words, one after another
 pub last_word : (word rest : List ℕ) → line_text (word ∷ []) ++ rest ≡ word ++ 10 ∷ rest

@@ -1,8 +1,11 @@
 -- What functions inside this crate ensure to one another. No public contract names it, so nobody has to believe it: these
 -- are definitions.
-use Rattle.std.specs.Prelude.{◌≡◌, ◌≢◌, ◌≤◌, ℕ, ◌∷◌, [], decimal, List, length, take, slice_index, codes}
+use Rattle.std.specs.Prelude.{◌≡◌, ◌≢◌, ◌<◌, ◌≤◌, ◌^◌, ℕ, ◌∷◌, ◌++◌, [], decimal, List, length, take, slice_index, codes}
 use Rattle.std.specs.Str.Parse.{AllDigits, digits_value}
+use Rattle.std.specs.Char.{digit_value}
 use Rattle.braking.specs.Limits.{speed_max}
+use Rattle.safety.specs.declared.event.Event.{Event}
+use Rattle.safety.specs.declared.event.Event.TheVariants as events
 use Rattle.scenario.specs.Lines.{IsNumber}
 use Rattle.scenario.specs.declared.keyword.Keyword.{Keyword}
 use Rattle.scenario.specs.declared.keyword.Keyword.TheVariants as keywords
@@ -31,3 +34,38 @@ NoEntry keywords.Tell rest = (m n : ℕ) → IsNumber m → IsNumber n → rest 
 NoEntry keywords.Grant rest = (m n : ℕ) → IsNumber m → IsNumber n → rest ≢ decimal m ∷ codes "train" ∷ decimal n ∷ []
 NoEntry keywords.Take rest = (n : ℕ) → IsNumber n → rest ≢ codes "message" ∷ decimal n ∷ []
 NoEntry keywords.Restart rest = (n : ℕ) → IsNumber n → rest ≢ decimal n ∷ []
+
+-- numbers and events that are read in one pass
+abbrev pub IsShort : ℕ → Type 0
+IsShort n = n < 10 ^ 13
+
+abbrev pub EventShort : Event → Type 0
+EventShort (events.Tick train wish speed) = IsShort train × (wish ≤ speed_max) × IsShort speed
+EventShort (events.Mark train) = IsShort train
+EventShort (events.Report train) = IsShort train
+EventShort (events.Hear controller message) = IsShort controller × IsShort message
+EventShort (events.Tell controller train) = IsShort controller × IsShort train
+EventShort (events.Grant controller train) = IsShort controller × IsShort train
+EventShort (events.Take message) = IsShort message
+EventShort (events.Restart controller) = IsShort controller
+
+-- it does not begin with a digit
+abbrev pub NoDigit : List ℕ → Type 0
+NoDigit text = 10 ≤ digit_value (slice_index text 0)
+
+-- words with a blank (32) between them, a line feed (10), and what comes after
+abbrev pub line_then : (words : List (List ℕ)) → (rest : List ℕ) → List ℕ
+line_then [] rest = 10 ∷ rest
+line_then (word ∷ []) rest = word ++ 10 ∷ rest
+line_then (word ∷ next ∷ words) rest = word ++ 32 ∷ line_then (next ∷ words) rest
+
+-- no line of a number follows; none of a number, a word and a number; none of what follows `tick`
+abbrev pub NoNumber : List ℕ → Type 0
+NoNumber text = (n : ℕ) (rest : List ℕ) → IsShort n → text ≢ line_then (decimal n ∷ []) rest
+
+abbrev pub NoTwo : (between text : List ℕ) → Type 0
+NoTwo between text = (m n : ℕ) (rest : List ℕ) → IsShort m → IsShort n → text ≢ line_then (decimal m ∷ between ∷ decimal n ∷ []) rest
+
+abbrev pub NoTick : List ℕ → Type 0
+NoTick text = (train wish speed : ℕ) (rest : List ℕ) → IsShort train → wish ≤ speed_max → IsShort speed →
+    text ≢ line_then (decimal train ∷ codes "wish" ∷ decimal wish ∷ codes "speed" ∷ decimal speed ∷ []) rest
