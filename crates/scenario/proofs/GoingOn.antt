@@ -52,13 +52,13 @@ one_more_dropped zero said = refl
 one_more_dropped (suc count) [] = refl
 one_more_dropped (suc count) (next ∷ said) = one_more_dropped count said
 
-pub past_on : (n count more line : ℕ) (said now : List Said) → more ≡ count + 1 → line ≡ line_past n count said → now ≡ drop count said →
-    line_past line 1 now ≡ line_past n more said
-past_on n count more line said now one is rest =
-    let next : more ≡ suc count = omega (arith, one) in
-    rw (next, is, rest) (past_one_more n count said)
+pub past_on : (n count more line next : ℕ) (said now : List Said) → next ≡ line_past line 1 now → line ≡ line_past n count said → now ≡ drop count said →
+    more ≡ count + 1 → next ≡ line_past n more said
+past_on n count more line next said now on is rest one =
+    let more_is : more ≡ suc count = omega (arith, one) in
+    on ∙ rw (more_is, is, rest) (past_one_more n count said)
 
-pub dropped_on : (count more : ℕ) (said now : List Said) → more ≡ count + 1 → now ≡ drop count said → drop 1 now ≡ drop more said
-dropped_on count more said now one rest =
-    let next : more ≡ suc count = omega (arith, one) in
-    rw (next, rest) (one_more_dropped count said)
+pub dropped_on : (count more : ℕ) (said now next : List Said) → next ≡ drop 1 now → now ≡ drop count said → more ≡ count + 1 → next ≡ drop more said
+dropped_on count more said now next on rest one =
+    let more_is : more ≡ suc count = omega (arith, one) in
+    on ∙ rw (more_is, rest) (one_more_dropped count said)

@@ -1,6 +1,6 @@
 // How a day begins.
 ghost use Rattle.scenario.specs.Heads.{brakes_of, controllers_of, trains_of};
-ghost use Rattle.std.specs.Prelude.{◌≡◌, IfOk};
+ghost use Rattle.std.specs.Prelude.{◌≡◌, ◌<◌, IfOk, OnErr, length};
 
 use crate::entry::HeadLine;
 use braking::Brakes;
@@ -20,6 +20,7 @@ impl Head {
         ensures brakes { IfOk result (λ head. head.brakes ≡ brakes_of lines.now) }
         ensures controllers { IfOk result (λ head. head.controllers ≡ controllers_of lines.now) }
         ensures trains { IfOk result (λ head. head.trains.items ≡ trains_of lines.now) }
+        ensures full { OnErr result (0 < length (trains_of lines.now)) }
     {
         let mut brakes = Brakes {
             brake: 0,
