@@ -132,6 +132,16 @@ class Body:
     given: dict
 
 
+def closing(tokens, start):
+    """The number of the token that closes what the token `start` opens."""
+    depth = 0
+    for number in range(start, len(tokens)):
+        depth += (tokens[number].text in OPEN) - (tokens[number].text in CLOSE)
+        if not depth:
+            return number
+    return len(tokens) - 1
+
+
 class Source:
     """A file of src/: its text and its tokens with neither comments nor blanks."""
 
@@ -146,14 +156,7 @@ class Source:
         ]
 
     def closing(self, start):
-        """The number of the token that closes what the token `start` opens."""
-        depth = 0
-        for number in range(start, len(self.tokens)):
-            text = self.tokens[number].text
-            depth += (text in OPEN) - (text in CLOSE)
-            if not depth:
-                return number
-        return len(self.tokens) - 1
+        return closing(self.tokens, start)
 
     def bodies(self):
         """The bodies of functions, and the values of constants."""
@@ -367,13 +370,7 @@ class Editor:
         return after in ("=>", "=", "|")
 
     def closing(self, start):
-        depth = 0
-        for number in range(start, len(self.tokens)):
-            text = self.tokens[number].text
-            depth += (text in OPEN) - (text in CLOSE)
-            if not depth:
-                return number
-        return len(self.tokens) - 1
+        return closing(self.tokens, start)
 
     def swapped(self, number):
         """The operands change places, where each is one word."""
