@@ -130,6 +130,8 @@ class Body:
     start: object
     # the types of what it is given, by name
     given: dict
+    # whether it is given its own value, and not lent it
+    takes_self: bool = False
 
 
 def closing(tokens, start):
@@ -166,7 +168,7 @@ class Source:
             if word == "fn" and self.tokens[number + 1].kind == "name":
                 start = self.body_of(number)
                 stop = self.closing(start)
-                yield Body(self.tokens[number + 1].text, self.is_public(number), self.tokens[start : stop + 1], self.tokens[number].at, self.given(number, start))
+                yield Body(self.tokens[number + 1].text, self.is_public(number), self.tokens[start : stop + 1], self.tokens[number].at, self.given(number, start), self.takes_self(number))
                 number = stop
             elif word == "const" and self.tokens[number + 1].text != "fn" and self.tokens[number + 2].text == ":":
                 start = stop = next(it for it in range(number, len(self.tokens)) if self.tokens[it].text == "=")
@@ -182,6 +184,9 @@ class Source:
                 first, last = (self.text.count("\n", 0, it) + 1 for it in (body.start, body.tokens[-1].at))
                 calls = frozenset(it.text for it in body.tokens if it.kind == "name")
                 yield Function(self.file, body.function, body.is_public, first, last, calls)
+
+    def takes_self(self, number):
+        return "self" in [it.text for it in self.tokens[number + 3 : number + 5]] and self.tokens[number + 3].text != "&"
 
     def given(self, number, start):
         """The names of what a function is given, with their types."""
@@ -320,9 +325,16 @@ class Editor:
             self.add(token.at, self.tokens[self.closing(number + 1)].end, "None")
         if token.text in ("Ok", "Err") and after and after.text == "(":
             self.of_outcome(number, token)
+        if token.text == "new" and before.text == "::" and self.body.takes_self:
+            self.add(self.tokens[number - 2].at, self.tokens[self.closing(number + 1)].end, "self")
         if after and after.text == "(" and token.text != self.body.function:
             for other in self.cases.functions_like(token.text)[:2]:
                 self.add(token.at, token.end, other)
+            if token.text in self.cases.refusing and "Refusal" in self.source.text:
+                start = number
+                while self.tokens[start - 1].text == "." and self.tokens[start - 2].kind == "name":
+                    start -= 2
+                self.add(self.tokens[start].at, self.tokens[self.closing(number + 1)].end, "Err(Refusal::SpeedTooHigh)")
         if follows and token.text in STEPS and after and after.text == "(":
             self.add(before.at, self.tokens[self.closing(number + 1)].end, "")
         if before is not None and before.text in ("::", ".") and not (after and after.text == "("):
@@ -499,6 +511,8 @@ class Cases:
 
     def __init__(self, folders):
         self.alike, self.forms = [], {}
+        # the functions that may answer a refusal
+        self.refusing = set()
         for folder in folders:
             for file in sorted(os.listdir(f"{folder}/src")):
                 if file.endswith(".rt"):
@@ -514,6 +528,8 @@ class Cases:
         text = re.sub(r"//[^\n]*", "", text)
         for name, given, back in re.findall(r"\bfn (\w+)\(([^)]*)\)([^{]*?)(?:\brequires\b|\bensures\b|\{)", text):
             types = [it.split(":")[-1].strip() for it in given.split(",") if it.strip()]
+            if re.match(r"-> Result<.*\bRefusal>", " ".join(back.split())):
+                self.refusing.add(name)
             names = self.forms.setdefault((*types, " ".join(back.split())), [])
             if name not in names:
                 names.append(name)
