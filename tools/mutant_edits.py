@@ -126,7 +126,7 @@ class Body:
     function: str
     is_public: bool
     tokens: list
-    # where its signature begins; no constant has one
+    # where its attributes begin, or its signature where it has none; no constant has such a place
     start: object
     # the types of what it is given, by name
     given: dict
@@ -168,7 +168,7 @@ class Source:
             if word == "fn" and self.tokens[number + 1].kind == "name":
                 start = self.body_of(number)
                 stop = self.closing(start)
-                yield Body(self.tokens[number + 1].text, self.is_public(number), self.tokens[start : stop + 1], self.tokens[number].at, self.given(number, start), self.takes_self(number))
+                yield Body(self.tokens[number + 1].text, self.is_public(number), self.tokens[start : stop + 1], self.beginning(number), self.given(number, start), self.takes_self(number))
                 number = stop
             elif word == "const" and self.tokens[number + 1].text != "fn" and self.tokens[number + 2].text == ":":
                 start = stop = next(it for it in range(number, len(self.tokens)) if self.tokens[it].text == "=")
@@ -193,6 +193,12 @@ class Source:
         opened = next(it for it in range(number, start) if self.tokens[it].text == "(")
         inside = self.text[self.tokens[opened].end : self.tokens[self.closing(opened)].at]
         return dict(re.findall(r"(\w+): ([^,]+)", inside))
+
+    def beginning(self, number):
+        """Where the function begins whose `fn` has the number: a refusal is told at its attributes, if it has any."""
+        while number and self.tokens[number - 1].text not in ("{", "}", ";"):
+            number -= 1
+        return self.tokens[number].at
 
     def is_inside(self, start, stop):
         """Whether something is open between two tokens."""
