@@ -3,7 +3,8 @@
 import os
 import random
 import re
-from dataclasses import dataclass
+from collections import Counter
+from dataclasses import dataclass, replace
 
 TOKEN = re.compile(
     r"(?P<comment>//[^\n]*)"
@@ -86,11 +87,14 @@ class Edit:
     old: str
     new: str
     around: str
+    # which one it is of those that would be told in the same words
+    which: int = 1
 
     def change(self):
         """Where it is and what it changes, on one line."""
         old, new = (" ".join(it.split()) for it in (self.old, self.new))
-        return f"{self.function}: {short(old)} -> {short(new)} in: {self.around}"
+        which = f" (no. {self.which})" if self.which > 1 else ""
+        return f"{self.function}: {short(old)} -> {short(new)} in: {self.around}{which}"
 
     def place(self):
         return f"{self.file} {self.function}"
@@ -568,6 +572,10 @@ def of_crate(folders):
             for body in source.bodies():
                 for edit in Editor(source, body, cases).edits():
                     found.setdefault((file, edit.made(source.text)), edit)
+    seen = Counter()
+    for key, edit in found.items():
+        seen[edit.name()] += 1
+        found[key] = replace(edit, which=seen[edit.name()])
     return list(found.values())
 
 
