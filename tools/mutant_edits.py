@@ -219,7 +219,7 @@ class Source:
         return number
 
     def is_public(self, number):
-        """Whether `pub` stands before `fn`, or the function is of a trait."""
+        """Whether `pub` stands before `fn`: not `pub(crate)`, and not in a trait, where nothing stands."""
         before = [it.text for it in self.tokens[max(0, number - 4) : number]]
         return "pub" in before and "crate" not in before
 
