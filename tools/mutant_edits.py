@@ -440,7 +440,7 @@ class Editor:
                 named.append((self.tokens[begin].text, (begin, end)))
             elif end - begin > 2 and self.tokens[begin + 1].text == ":":
                 named.append((self.tokens[begin].text, (begin + 2, end)))
-            else:
+            elif self.tokens[begin].text != "..":
                 return
         after = self.closing(number) + 1
         if after < len(self.tokens) and self.tokens[after].text in ("=>", "=", "|"):
