@@ -171,8 +171,11 @@ class Source:
             word = self.tokens[number].text
             if word == "fn" and self.tokens[number + 1].kind == "name":
                 start = self.body_of(number)
-                stop = self.closing(start)
-                yield Body(self.tokens[number + 1].text, self.is_public(number), self.tokens[start : stop + 1], self.beginning(number), self.given(number, start), self.takes_self(number))
+                stop = self.closing(start) if self.tokens[start].text == "{" else start
+                if stop > start:
+                    tokens, given = self.tokens[start : stop + 1], self.given(number, start)
+                    name, begins = self.tokens[number + 1].text, self.beginning(number)
+                    yield Body(name, self.is_public(number), tokens, begins, given, self.takes_self(number))
                 number = stop
             elif word == "const" and self.tokens[number + 1].text != "fn" and self.tokens[number + 2].text == ":":
                 start = stop = next(it for it in range(number, len(self.tokens)) if self.tokens[it].text == "=")
@@ -209,11 +212,13 @@ class Source:
         return sum((it.text in OPEN) - (it.text in CLOSE) for it in self.tokens[start:stop]) > 0
 
     def body_of(self, number):
-        """The number of the brace that opens the body: clauses have braces of their own."""
-        while self.tokens[number].text != "{":
+        """The number of the brace that opens the body, or of the semicolon of a function of a trait that has none. Clauses
+        have braces of their own, and types may have semicolons."""
+        while self.tokens[number].text not in ("{", ";"):
             if self.tokens[number].text in CLAUSES:
                 while self.tokens[number].text != "{":
                     number += 1
+            if self.tokens[number].text in OPEN:
                 number = self.closing(number)
             number += 1
         return number
