@@ -106,9 +106,9 @@ def outcome(status, said):
         return PROVED, ""
     if status < 0:
         return UNKNOWN, f" (it was ended by the signal {-status})"
-    if any(it.startswith("logic=not-proved") for it in lines):
+    if told and any(it.startswith("logic=not-proved") for it in lines):
         first = next((it for it in told if not FILE_UNFIT.match(it)), "")
-        return (REFUSED if first or not told else FILE_ONLY), f" ({(first or (told or lines)[0])[:110]})"
+        return (REFUSED if first else FILE_ONLY), f" ({(first or told[0])[:110]})"
     if not LIMIT.search(said) and re.search(r"\berror(\[[\w-]+\])?:", said):
         return NOT_RUST, ""
     return UNKNOWN, f" ({lines[-1][:110]})"

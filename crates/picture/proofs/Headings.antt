@@ -3,7 +3,7 @@ use Rattle.std.proofs.Common.{◌≡◌, ℕ, List, ◌++◌, chars, codes, deci
 use Rattle.line.specs.declared.gaps.Gaps.{Gaps}
 use Rattle.picture.specs.declared.drawing.Drawing.{Drawing}
 use Rattle.picture.specs.declared.heading.Heading.{Heading}
-use Rattle.picture.specs.Headings.{count_text, counts_line, counts_text, gaps_in_decimetres, heading_text, name_text, page_text, refusal_text, title_text, wrong_text}
+use Rattle.picture.specs.Headings.{count_text, counts_line, counts_text, gaps_in_decimetres, heading_text, title_on_page, page_text, refusal_text, title_text, wrong_text}
 use Rattle.picture.specs.Marks.{all_marks, percent, shapes_text}
 use Rattle.picture.specs.Page.{left}
 use Rattle.picture.specs.Styles.{classes, style_text, widths}
@@ -15,8 +15,8 @@ unfolding title_text
 title_written title old one two all a b c = rw (c, b, a) (simp append_assoc refl)
 
 pub name_written : (title old one two all : List ℕ) → one ≡ old ++ (codes "<text class=\"name\" x=\"" ++ (decimal left ++ codes "\" y=\"450\">")) →
-    two ≡ one ++ end_of 45 (chars title) → all ≡ two ++ codes "</text>\n" → all ≡ old ++ name_text title
-unfolding name_text
+    two ≡ one ++ end_of 45 (chars title) → all ≡ two ++ codes "</text>\n" → all ≡ old ++ title_on_page title
+unfolding title_on_page
 name_written title old one two all a b c = rw (c, b, a) (simp append_assoc refl)
 
 pub wrong_written : (y : ℕ) (text old one two all : List ℕ) →
@@ -43,6 +43,6 @@ pub style_written : (columns trains wide many : ℕ) (old one two three four all
 style_written columns trains wide many old one two three four all w m a b c d e = rw (e, d, c, b, a, w, m) (simp append_assoc refl)
 
 pub heading_written : (d : Drawing) (h : Heading) (old one two three four five all : List ℕ) → one ≡ old ++ title_text h.title.now →
-    two ≡ one ++ style_text d.columns (length d.tracks.items) → three ≡ two ++ page_text → four ≡ three ++ name_text h.title.now →
+    two ≡ one ++ style_text d.columns (length d.tracks.items) → three ≡ two ++ page_text → four ≡ three ++ title_on_page h.title.now →
     five ≡ four ++ counts_line d h.gaps → all ≡ five ++ refusal_text h.refusal → all ≡ old ++ heading_text d h
 heading_written d h old one two three four five all a b c e f g = rw (g, f, e, c, b, a) (simp append_assoc refl)

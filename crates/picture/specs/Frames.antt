@@ -23,14 +23,16 @@ frame_width = right - left + 2 * margin
 abbrev pub frame_height : ℕ
 frame_height = foot - top + 2 * margin
 
--- a level line of the grid, and the number beside it
+-- a level line of the grid
 unfoldable pub level_line : (y : ℕ) → List ℕ
 level_line y = codes "<path class=\"grid\" d=\"M" ++ (decimal frame_x ++ (codes "," ++ (decimal y ++ (codes "H" ++ (decimal (frame_x + frame_width) ++ codes "\"/>\n")))))
 
+-- its number
 unfoldable pub level_number : (y : ℕ) → Place → List ℕ
 level_number y place =
     codes "<text class=\"to\" x=\"" ++ (decimal (frame_x - 50) ++ (codes "\" y=\"" ++ (decimal (y + 55) ++ (codes "\">" ++ (place_text place ++ codes "</text>\n")))))
 
+-- both
 abbrev pub level_text : (y : ℕ) → Place → List ℕ
 level_text y place = level_line y ++ level_number y place
 
@@ -55,24 +57,29 @@ grid_step s = round_step (s.cut - s.lowest) 12
 abbrev pub in_kilometres : Scale → Bool
 in_kilometres s = nat_le 20000 (s.cut - s.lowest)
 
+-- the grid of places
 abbrev pub places_text : Scale → List ℕ
 places_text s = levels_text 13 s (first_from s.lowest (grid_step s)) (grid_step s) (in_kilometres s) ++ cut_text s (in_kilometres s)
 
--- an upright line of the grid, with how many events were before it, and how many of them were ticks
+-- an upright line of the grid
 unfoldable pub moment_line : (x : ℕ) → List ℕ
 moment_line x = codes "<path class=\"grid\" d=\"M" ++ (decimal x ++ (codes "," ++ (decimal frame_y ++ (codes "V" ++ (decimal (frame_y + frame_height) ++ codes "\"/>\n")))))
 
+-- how many events
 unfoldable pub moment_events : (x : ℕ) → Moment → List ℕ
 moment_events x m =
     codes "<text class=\"on\" x=\"" ++ (decimal x ++ (codes "\" y=\"" ++ (decimal (frame_y + frame_height + 200) ++ (codes "\">" ++ (decimal m.events ++ codes "</text>")))))
 
+-- how many ticks
 unfoldable pub moment_ticks : (x : ℕ) → Moment → List ℕ
 moment_ticks x m =
     codes "<text class=\"on small\" x=\"" ++ (decimal x ++ (codes "\" y=\"" ++ (decimal (frame_y + frame_height + 400) ++ (codes "\">" ++ (decimal m.ticks ++ codes "</text>\n")))))
 
+-- all three
 abbrev pub moment_text : (x : ℕ) → Moment → List ℕ
 moment_text x m = moment_line x ++ (moment_events x m ++ moment_ticks x m)
 
+-- after each of these numbers of events
 abbrev pub moments_text : Scale → List Moment → List ℕ
 moments_text s [] = []
 moments_text s (m ∷ moments) = moment_text (across s m.events) m ++ moments_text s moments
@@ -89,11 +96,13 @@ abbrev pub unit_name : (in_kilometres : Bool) → List ℕ
 unit_name true = codes "kilometres"
 unit_name false = codes "metres"
 
+-- the axis of places, upwards
 unfoldable pub place_axis : (unit : List ℕ) → List ℕ
 place_axis unit =
     codes "<text class=\"on\" transform=\"translate(330," ++ (decimal ((top + foot) / 2) ++ (codes ") rotate(-90)\">place, in " ++ (unit ++
     codes " from the foot of the line</text>\n")))
 
+-- the axis of the events
 unfoldable pub time_axis : List ℕ
 time_axis =
     codes "<text class=\"on\" x=\"" ++ (decimal ((left + right) / 2) ++ (codes "\" y=\"" ++ (decimal (foot + 700) ++ codes "\">time: the events in their order</text>\n")))
@@ -112,20 +121,24 @@ frame_rect =
 unfoldable pub stop_line : (x : ℕ) → List ℕ
 stop_line x = codes "<path class=\"stop\" d=\"M" ++ (decimal x ++ (codes "," ++ (decimal frame_y ++ (codes "V" ++ (decimal (frame_y + frame_height) ++ codes "\"/>\n")))))
 
+-- if it was refused
 abbrev pub stop_text : (refused : Bool) → (x : ℕ) → List ℕ
 stop_text false x = []
 stop_text true x = stop_line x
 
--- the gap from a front up to a rear, a circle around it, and a line that points at it
+-- the gap, from a front up to a rear
 unfoldable pub gap_line : (x rear front : ℕ) → List ℕ
 gap_line x rear front = codes "<path class=\"gap\" d=\"M" ++ (decimal x ++ (codes "," ++ (decimal front ++ (codes "V" ++ (decimal rear ++ codes "\"/>")))))
 
+-- the circle
 unfoldable pub gap_circle : (x middle : ℕ) → List ℕ
 gap_circle x middle = codes "<circle class=\"gap\" cx=\"" ++ (decimal x ++ (codes "\" cy=\"" ++ (decimal middle ++ codes "\" r=\"90\"/>")))
 
+-- the line that points at it
 unfoldable pub gap_pointer : (x rear : ℕ) → List ℕ
 gap_pointer x rear = codes "<path class=\"point\" d=\"M" ++ (decimal x ++ (codes "," ++ (decimal frame_y ++ (codes "V" ++ (decimal rear ++ codes "\"/>\n")))))
 
+-- all three, at once
 abbrev pub gap_mark : (x rear front : ℕ) → List ℕ
 gap_mark x rear front = gap_line x rear front ++ (gap_circle x ((rear + front) / 2) ++ gap_pointer x rear)
 
@@ -133,6 +146,7 @@ gap_mark x rear front = gap_line x rear front ++ (gap_circle x ((rear + front) /
 abbrev pub anchor : (x : ℕ) → List ℕ
 anchor x = if nat_lt (right - 2600) x then codes "to" else (if nat_lt x (left + 2600) then [] else codes "on")
 
+-- how large it is, and between which trains
 unfoldable pub gap_words : (anchor : List ℕ) → (x : ℕ) → Nearest → List ℕ
 gap_words anchor x n =
     codes "<text class=\"" ++ (anchor ++ (codes "\" x=\"" ++ (decimal x ++ (codes "\" y=\"" ++ (decimal (frame_y - 60) ++

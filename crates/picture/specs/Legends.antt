@@ -3,6 +3,7 @@ use Rattle.std.specs.Prelude.{ℕ, nat_lt, ◌||◌, List, [], ◌++◌, if◌th
 use Rattle.picture.specs.declared.messages.Messages.{Messages}
 use Rattle.picture.specs.declared.scale.Scale.{Scale}
 
+-- what every picture has
 unfoldable pub legend : List ℕ
 legend =
     codes "<g class=\"c0\">\n" ++ (
@@ -30,6 +31,7 @@ unfoldable pub cut_legend : List ℕ
 cut_legend =
     codes "<path class=\"cut\" d=\"M11500,10350H11800\"/><text x=\"11850\" y=\"10405\">above this, places lie closer</text>\n"
 
+-- if it is cut
 abbrev pub cut_legend_if : Scale → List ℕ
 cut_legend_if s = if nat_lt s.cut s.highest then cut_legend else []
 
@@ -44,5 +46,6 @@ drawn_text sendings sent hearings heard =
 abbrev pub drawn_text_if : (sendings sent hearings heard : ℕ) → List ℕ
 drawn_text_if sendings sent hearings heard = if nat_lt hearings heard || nat_lt sendings sent then drawn_text sendings sent hearings heard else []
 
+-- all of it
 abbrev pub legend_text : Scale → Messages → List ℕ
 legend_text s m = legend ++ (cut_legend_if s ++ drawn_text_if (length m.sendings.items) (length m.sent.items) (length m.hearings.items) m.heard)

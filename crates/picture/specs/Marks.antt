@@ -46,6 +46,7 @@ shape_text percent mark =
     (codes "<path id=\"" ++ (mark_letter mark ++ (codes "\" transform=\"scale(" ++ (decimal (percent / 100) ++ (codes "." ++
     (decimal (percent / 10 % 10) ++ (decimal (percent % 10) ++ (codes ")\" d=\"" ++ (outline mark ++ codes "\"/>\n"))))))))))))))
 
+-- every mark there is
 abbrev pub all_marks : List Mark
 all_marks = Braked ∷ Marked ∷ Report ∷ Words ∷ Grant ∷ Heard ∷ Taken ∷ Restart ∷ []
 

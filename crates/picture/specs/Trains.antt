@@ -59,6 +59,7 @@ abbrev pub name_text : (trains train next : ℕ) → Option Point → List ℕ
 name_text trains train next None = []
 name_text trains train next (Some end) = label_text train end (name_level trains train next end) (name_size trains)
 
+-- where the name of the next train may stand
 abbrev pub next_level : (trains train next : ℕ) → Option Point → ℕ
 next_level trains train next None = next
 next_level trains train next (Some end) = name_level trains train next end + apart trains
@@ -70,5 +71,6 @@ names_text trains train next (track ∷ tracks) =
     name_text trains train next (last_of track.lines.fronts.items) ++
     names_text trains (train + 1) (next_level trains train next (last_of track.lines.fronts.items)) tracks
 
+-- the names of all trains
 abbrev pub labels_text : List Track → List ℕ
 labels_text tracks = names_text (length tracks) 0 top tracks

@@ -1,5 +1,5 @@
 // What is written above a picture.
-ghost use Rattle.picture.specs.Headings.{count_text, counts_line, counts_text, gaps_in_decimetres, heading_text, name_text, page_text, refusal_text, title_text, wrong_lines, wrong_text};
+ghost use Rattle.picture.specs.Headings.{count_text, counts_line, counts_text, gaps_in_decimetres, heading_text, title_on_page, page_text, refusal_text, title_text, wrong_lines, wrong_text};
 ghost use Rattle.std.specs.Prelude.{◌≡◌, ◌++◌, OnOk, length, string_bytes};
 
 use crate::drawing::Drawing;
@@ -64,7 +64,7 @@ fn write_page(out: &mut String) -> Result<(), AllocError>
 }
 
 fn write_name(out: &mut String, title: &str) -> Result<(), AllocError>
-    ensures { OnOk result (string_bytes out.new ≡ string_bytes out.old ++ name_text title.now) }
+    ensures { OnOk result (string_bytes out.new ≡ string_bytes out.old ++ title_on_page title.now) }
 {
     write!(out, "<text class=\"name\" x=\"{LEFT}\" y=\"450\">")?;
     write_end_of(out, title, TITLE)?;

@@ -14,12 +14,14 @@ up_to_or_all most words =
     let half = one_in 2 words in
     if half.0 then (most, half.1) else up_to most half.1
 
+-- a third of the time a low brake
 unfoldable pub some_brake : Stream → ℕ × Stream
 some_brake words =
     let low = one_in 3 words in
     let more = if low.0 then up_to 3 low.1 else up_to 99 low.1 in
     (1 + more.0, more.1)
 
+-- half of the time a small blur
 unfoldable pub some_blur : Stream → ℕ × Stream
 some_blur words =
     let low = one_in 2 words in
@@ -34,6 +36,7 @@ scale_of of_five =
     if of_five == 3 then 10000 else
     100000
 
+-- one of five such distances
 unfoldable pub some_scale : Stream → ℕ × Stream
 some_scale words = (scale_of (up_to 4 words).0, (up_to 4 words).1)
 
@@ -45,7 +48,7 @@ some_room limit scale words =
     if of_three.0 == 1 then up_to (scale * 100) of_three.1 else
     up_to scale of_three.1
 
--- how far low, front and high of a train are apart at most
+-- how far low, front and high of a train are apart at most; half of the time not at all
 unfoldable pub some_blurring : (scale : ℕ) → Stream → ℕ × Stream
 some_blurring scale words =
     let half = one_in 2 words in
@@ -93,6 +96,7 @@ trains_from train limit base scale (suc count) words =
     let rest = trains_from (train + 1) (first.0.front - first.0.length) base scale count first.1 in
     (first.0 ∷ rest.0, rest.1)
 
+-- so many trains, with room for all of them behind the first
 unfoldable pub random_trains : (count : ℕ) → Stream → List Standing × Stream
 random_trains count words =
     let scale = some_scale words in

@@ -19,12 +19,13 @@ is_drive (Ok Drive) = true
 is_drive (Ok Brake) = false
 is_drive (Err why) = false
 
--- the one in the middle takes the place of one of them
+-- the speed in the middle takes the place of the one that is let, if the unit lets it, else of the one that is refused
 unfoldable pub narrowed : Onboard → Bounds → Bounds
 narrowed u bounds =
     let middle = bounds.lets + (bounds.refused - bounds.lets) / 2 in
     if is_drive (asked u middle) then record bounds { lets = middle } else record bounds { refused = middle }
 
+-- so many turns of that
 unfoldable pub narrowed_by_turns : Onboard → (turns : ℕ) → Bounds → Bounds
 narrowed_by_turns u zero bounds = bounds
 narrowed_by_turns u (suc turns) bounds = narrowed_by_turns u turns (narrowed u bounds)
@@ -47,6 +48,7 @@ any_wish u words =
     if of_ten.0 == 6 then (u.speed, of_ten.1) else
     (min (u.speed + more.0) (2 ^ 64 - 1), more.1)
 
+-- the same, but not above the highest speed that can be wished
 unfoldable pub some_wish : Onboard → Stream → ℕ × Stream
 some_wish u words =
     let wish = any_wish u words in
@@ -61,6 +63,7 @@ some_of_fastest fastest words =
     if of_six.0 == 2 then up_to fastest of_six.1 else
     (fastest, of_six.1)
 
+-- the speed of a tick with a wish; 0 where there is no such train
 unfoldable pub some_speed : State → (train wish : ℕ) → Stream → ℕ × Stream
 some_speed s train wish words =
     let fastest = onboard.fastest (train_at s train).unit wish in

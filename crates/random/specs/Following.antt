@@ -25,12 +25,14 @@ some_message s words =
     if of_six.0 == 3 then up_to (min last 15) of_six.1 else
     up_to last of_six.1
 
+-- a tick of a train, with a wish and a speed; a report, where there is no such train
 unfoldable pub some_tick : State → (train : ℕ) → Stream → Event × Stream
 some_tick s train words =
     let wish = some_wish (train_at s train).unit words in
     let speed = some_speed s train wish.0 wish.1 in
     if has_train s train then (events.Tick train wish.0 speed.0, speed.1) else (events.Report train, words)
 
+-- an event of a kind
 unfoldable pub event_of : Kind → State → (train controller : ℕ) → Stream → Event × Stream
 event_of kinds.Tick s train controller words = some_tick s train words
 event_of kinds.Mark s train controller words = (events.Mark train, words)
@@ -63,6 +65,7 @@ tried s kinds (suc tries) words =
     let event = some_event s kinds words in
     if can_be s event.0 then (Some event.0, event.1) else tried s kinds tries event.1
 
+-- the next event
 unfoldable pub random_event : State → Kinds → Stream → Option Event × Stream
 random_event s kinds words = tried s kinds 16 words
 

@@ -4,5 +4,6 @@ use Rattle.line.specs.declared.initial.Standing.{Standing}
 use Rattle.scenario.specs.declared.entry.HeadLine.{HeadLine}
 use Rattle.scenario.specs.declared.entry.HeadLine.TheVariants as heads
 
+-- brake, blur, controllers, and then the trains by number
 abbrev pub head_lines : (brake blur controllers : ℕ) → List Standing → List HeadLine
 head_lines brake blur controllers trains = heads.Brake brake ∷ heads.Blur blur ∷ heads.Controllers controllers ∷ map heads.Train trains

@@ -15,6 +15,7 @@ kinds_of of_six =
     if of_six == 2 then Even else
     Mixed
 
+-- the kinds of a day
 unfoldable pub some_kinds : Stream → Kinds × Stream
 some_kinds words = (kinds_of (up_to 5 words).0, (up_to 5 words).1)
 
@@ -35,6 +36,7 @@ unfoldable pub kind_at : List (Kind × ℕ) → ℕ → Kind
 kind_at [] left = Tick
 kind_at (share ∷ rest) left = if nat_lt left share.1 then share.0 else kind_at rest (left - share.1)
 
+-- the kind of the next event
 unfoldable pub one_of : Kinds → Stream → Kind × Stream
 one_of kinds words =
     let number = up_to (all_of (shares kinds) - 1) words in

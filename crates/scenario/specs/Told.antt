@@ -12,13 +12,15 @@ use Rattle.scenario.specs.declared.misplaced.Misplaced.{Misplaced}
 use Rattle.scenario.specs.declared.misplaced.Misplaced.TheVariants.{Length, Low, Front, High, End}
 use Rattle.scenario.specs.Faults.{text_of}
 
--- what has to stand at a place of a line
+-- the words that a line can begin with
 unfoldable pub keywords_text : List ℕ
 keywords_text = codes "brake, blur, controllers, train, tick, mark, report, hear, tell, grant, take or restart"
 
+-- what a number is
 unfoldable pub number_text : List ℕ
 number_text = codes "a number below 2^64 without sign or leading zero"
 
+-- what has to stand at a place of a line
 abbrev pub part_text : Part → List ℕ
 part_text parts.Keyword = keywords_text
 part_text parts.Number = number_text
@@ -30,6 +32,7 @@ part_text parts.End = codes "the end of the line"
 abbrev pub is_shown : List ℕ → Bool
 is_shown word = nat_le (length word) 40 && list_all is_ascii_graphic word
 
+-- a word that was found: as it stands, or how long it is
 abbrev pub word_text : List ℕ → List ℕ
 word_text word =
     if is_shown word then codes "'" ++ (word ++ codes "'") else codes "a word of " ++ (decimal (length word) ++ codes " bytes")
@@ -43,10 +46,11 @@ found_text (Some word) = word_text word.now
 abbrev pub fault_text : Fault → List ℕ
 fault_text fault = codes "expected " ++ (part_text fault.expected ++ (codes ", found " ++ found_text fault.found))
 
--- why an event cannot be
+-- that a message is no grant
 unfoldable pub no_grant_text : ℕ → List ℕ
 no_grant_text message = codes "message " ++ (decimal message ++ codes " is a report, and only a grant can be taken")
 
+-- why an event cannot be
 abbrev pub why_not_text : WhyNot → List ℕ
 why_not_text (NoTrain train) = codes "there is no train " ++ decimal train
 why_not_text (NoTrainBehind train) = codes "there is no train behind train " ++ decimal train
