@@ -340,6 +340,8 @@ class Editor:
             self.add(token.at, self.tokens[self.closing(number + 1)].end, "None")
         if token.text in ("Ok", "Err") and after and after.text == "(":
             self.of_outcome(number, token)
+        if token.text == "MAX" and before.text == "::" and self.tokens[number - 2].text in NUMBERS:
+            self.add(self.tokens[number - 2].at, token.end, "0")
         if token.text == "new" and before.text == "::" and self.body.takes_self:
             self.add(self.tokens[number - 2].at, self.tokens[self.closing(number + 1)].end, "self")
         if after and after.text == "(" and token.text != self.body.function:
