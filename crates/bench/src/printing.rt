@@ -1,4 +1,6 @@
 // The lines of ticks, printed while a scenario is played.
+ghost use Rattle.std.specs.Prelude.{◌≡◌, []};
+
 use crate::play::{Piece, PlayError, Watcher};
 use crate::ticks::write_ticks;
 use line::Line;
@@ -18,7 +20,11 @@ pub struct Printing<W: Write + Drop> {
 }
 
 impl<W: Write + Drop> Printing<W> {
-    pub fn new(alloc: Global, out: W, shown: bool) -> Printing<W> {
+    pub fn new(alloc: Global, out: W, shown: bool) -> Printing<W>
+        ensures out { result.out ≡ out }
+        ensures shown { result.shown ≡ shown }
+        ensures ticks { result.ticks.items ≡ [] }
+    {
         Printing {
             out,
             shown,

@@ -1,5 +1,6 @@
 -- Trains that are drawn one by one are those that are drawn. Assumes nothing.
 use Rattle.std.proofs.Common.{◌≡◌, ℕ, suc, ◌+◌, ◌-◌, ◌*◌, ◌<◌, ◌≤◌, List, [], ◌∷◌, ◌++◌, arith, refl, ap, sym, ◌∙◌}
+use Rattle.std.proofs.lemmas.List.{append-nil}
 use Rattle.rand_core.specs.Stream.{Stream}
 use Rattle.braking.specs.Limits.{place_max}
 use Rattle.line.specs.declared.initial.Standing.{Standing}
@@ -12,10 +13,6 @@ with_before ts drawn = (ts ++ drawn.0, drawn.1)
 pub again : {A : Type 0} → (ts us : List A) (t : A) → ts ++ t ∷ us ≡ (ts ++ t ∷ []) ++ us
 again [] us t = refl
 again (u ∷ ts) us t = ap (λ vs. u ∷ vs) (again ts us t)
-
-pub nothing_after : {A : Type 0} → (ts : List A) → ts ++ [] ≡ ts
-nothing_after [] = refl
-nothing_after (t ∷ ts) = ap (λ us. t ∷ us) (nothing_after ts)
 
 one_train_less : (ts : List Standing) (train limit base scale count : ℕ) (s : Stream) → train < count →
     with_before ts (trains_from train limit base scale (count - train) s) ≡
@@ -41,7 +38,7 @@ unfolding trains_from
 all_drawn ts train limit base scale count s all over drawn =
     let none : count - train ≡ 0 = omega arith in
     let same = rw none at drawn in
-    (sym (nothing_after ts) ∙ ap (λ (p : List Standing × Stream). p.0) same, ap (λ (p : List Standing × Stream). p.1) same)
+    (sym (append-nil ts) ∙ ap (λ (p : List Standing × Stream). p.0) same, ap (λ (p : List Standing × Stream). p.1) same)
 
 pub trains_drawn : (ts : List Standing) (train limit count scale : ℕ) (s s' s'' : Stream) → count ≤ train → scale ≡ (some_scale s).0 → s' ≡ (some_scale s).1 →
     with_before ts (trains_from train limit ((count + 1) * 8 * scale) scale (count - train) s'') ≡ trains_from 0 place_max ((count + 1) * 8 * scale) scale count s' →

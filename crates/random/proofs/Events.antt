@@ -1,12 +1,13 @@
 -- Events that are drawn one by one are those that are drawn. Assumes nothing.
 use Rattle.std.proofs.Common.{◌≡◌, ℕ, suc, ◌+◌, ◌-◌, ◌<◌, ◌≤◌, Some, None, List, [], ◌∷◌, ◌++◌, arith, refl, sym, ◌∙◌, ap}
+use Rattle.std.proofs.lemmas.List.{append-nil}
 use Rattle.rand_core.specs.Stream.{Stream}
 use Rattle.safety.specs.declared.event.Event.{Event}
 use Rattle.safety.specs.State.{State}
 use Rattle.safety.specs.Events.{after_event}
 use Rattle.random.specs.declared.kinds.Kinds.{Kinds}
 use Rattle.random.specs.Following.{followed, random_event, some_events}
-use Rattle.random.proofs.Drawing.{again, nothing_after}
+use Rattle.random.proofs.Drawing.{again}
 
 none_left : (kinds : Kinds) (s : State) (words : Stream) → some_events kinds 0 s words ≡ []
 unfolding some_events
@@ -42,10 +43,10 @@ ended kinds count done s words es all less is drawn =
     let left : some_events kinds (suc (count - (done + 1))) s words ≡ [] =
     one_left kinds (count - (done + 1)) s words
     ∙ rw (← is) (on_none (some_events kinds (count - (done + 1))) s (random_event s kinds words).1) in
-    sym (nothing_after es) ∙ ap (λ rest. es ++ rest) (sym left) ∙ rw one at drawn
+    sym (append-nil es) ∙ ap (λ rest. es ++ rest) (sym left) ∙ rw one at drawn
 
 pub all_drawn : (kinds : Kinds) (count done : ℕ) (s : State) (words : Stream) (es : List Event) (all : List Event) → count ≤ done →
     es ++ some_events kinds (count - done) s words ≡ all → es ≡ all
 all_drawn kinds count done s words es all over drawn =
     let none : count - done ≡ 0 = omega arith in
-    sym (nothing_after es) ∙ ap (λ rest. es ++ rest) (sym (none_left kinds s words)) ∙ rw none at drawn
+    sym (append-nil es) ∙ ap (λ rest. es ++ rest) (sym (none_left kinds s words)) ∙ rw none at drawn
