@@ -1,5 +1,5 @@
 -- Laws of the braking distance. Assumes nothing.
-use Rattle.std.proofs.Common.{◌≡◌, ℕ, zero, suc, ◌+◌, ◌-◌, ◌*◌, ◌<◌, ◌≤◌, List, [], ◌∷◌, refl, arith}
+use Rattle.std.proofs.Common.{◌≡◌, ℕ, zero, suc, ◌+◌, ◌-◌, ◌*◌, ◌/◌, ◌<◌, ◌≤◌, List, [], ◌∷◌, refl, ap, arith}
 use Rattle.std.proofs.lemmas.Bool.Decides.{nat_tests}
 use Rattle.braking.specs.declared.brakes.Brakes.{Brakes}
 use Rattle.braking.specs.Distance.{distance_in, distance, distance_max}
@@ -63,3 +63,25 @@ distance_bound b v hu hv = omega (arith, bounded v b v hu hv)
 pub worked_example : WorkedExample
 unfolding distance distance_in
 worked_example = refl
+
+-- speeds, each less than the one before by the brake, come together to their number times the mean of the first and the last: here with one more
+series : (n b last : ℕ) → suc (suc n) * (last + suc n * b + last) / 2 ≡ last + suc n * b + suc n * (last + n * b + last) / 2
+series n b last = omega arith
+
+-- where n ticks of braking end above 0, the distance is these speeds and n blurs
+of_ticks : (b : Brakes) (v n : ℕ) → 0 < b.brake → n * b.brake ≤ v - 1 → v ≤ n * b.brake + b.brake →
+    n * (v - b.brake + (v - n * b.brake)) / 2 + n * b.blur ≡ distance b v
+of_ticks b v zero hb low high = omega (arith, distance_low b v (omega arith))
+of_ticks b v (suc zero) hb low high = omega (arith, (rule b hb).1 v (omega arith), distance_low b (v - b.brake) (omega arith))
+of_ticks b v (suc (suc n)) hb low high =
+    let w = v - b.brake in
+    let last = v - suc (suc n) * b.brake in
+    let before = of_ticks b w (suc n) hb (omega arith) (omega arith) in
+    let speeds : suc n * (w - b.brake + (w - suc n * b.brake)) ≡ suc n * (last + n * b.brake + last) = ap (λ x. suc n * x) (omega arith) in
+    let more : suc (suc n) * (w + last) ≡ suc (suc n) * (last + suc n * b.brake + last) = ap (λ x. suc (suc n) * x) (omega arith) in
+    omega (arith, before, speeds, more, series n b.brake last, (rule b hb).1 v (omega arith))
+
+-- the braking distance at once: how many ticks these are, is told by a division
+pub at_once : (b : Brakes) (v : ℕ) → 0 < b.brake → let n = (v - 1) / b.brake in
+    n * (v - b.brake + (v - n * b.brake)) / 2 + n * b.blur ≡ distance b v
+at_once b v hb = of_ticks b v ((v - 1) / b.brake) hb (omega arith) (omega arith)

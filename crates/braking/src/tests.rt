@@ -19,6 +19,28 @@ fn longest_distances(rt: HostRuntime) {
     assert_eq!(rt; strongest.braking_distance(10_000), Ok(495_000));
 }
 
+// The rule, walked down from each speed: 0 up to the brake, and above it the speed that is left, the blur, and the
+// distance from the speed that is left, which was held against the rule before.
+#[test]
+fn at_once_as_tick_by_tick(rt: HostRuntime) {
+    for brake in 1..=100 {
+        for blur in [0, 1, 100] {
+            let brakes = Brakes { brake, blur };
+            for speed in 0..=10_000 {
+                let told = if speed <= brake {
+                    Ok(0)
+                } else {
+                    let left = speed - brake;
+                    brakes
+                        .braking_distance(left)
+                        .map(|rest| left.wrapping_add(blur).wrapping_add(rest))
+                };
+                assert_eq!(rt; brakes.braking_distance(speed), told);
+            }
+        }
+    }
+}
+
 #[test]
 fn first_refusal_is_the_answer(rt: HostRuntime) {
     assert_eq!(rt;
