@@ -33,7 +33,7 @@ impl Parts {
         ensures seen { IfOk result (λ seen. seen ≡ seen_at (state self.old) event) }
     {
         match event {
-            Event::Tick { train, wish, speed } => return self.tick(train, wish, speed).map(Some),
+            Event::Tick { train, wish, speed } => return self.tick(train, wish, speed),
             Event::Mark { train } => self.mark(train)?,
             Event::Report { train } => self.report(train)?,
             Event::Hear {
@@ -96,10 +96,10 @@ impl Parts {
 
     // The driver wishes a speed, and the train then has one that the unit's answer allows. A wish that is refused
     // is not let.
-    fn tick(&mut self, train: u64, wish: u64, speed: u64) -> Result<Seen, StepError>
+    fn tick(&mut self, train: u64, wish: u64, speed: u64) -> Result<Option<Seen>, StepError>
         requires { (train : ℕ) → InLimits (state self.old) train }
         ensures step { Stepped result (Tick train wish speed) (Full self.new.sent) (state self.old) (state self.new) }
-        ensures seen { IfOk result (λ seen. Some seen ≡ seen_at (state self.old) (Tick train wish speed)) }
+        ensures seen { IfOk result (λ seen. seen ≡ seen_at (state self.old) (Tick train wish speed)) }
     {
         let here = self
             .trains
@@ -115,12 +115,12 @@ impl Parts {
         }
         here.front += speed;
         here.unit = here.unit.moved(speed).0;
-        Ok(Seen {
+        Ok(Some(Seen {
             train,
             word,
             speed,
             front: here.front,
-        })
+        }))
     }
 
     fn mark(&mut self, train: u64) -> Result<(), StepError>
