@@ -10,11 +10,12 @@ use Rattle.line.specs.declared.step_error.StepError.TheVariants.{Impossible, NoM
 use Rattle.line.specs.declared.new_error.NewError.{NewError}
 use Rattle.line.specs.declared.new_error.NewError.TheVariants as new
 
--- how many gaps were looked at, and the smallest, if there is one
+-- the smallest gap, if there is one
 unfoldable pub smallest_text : Option ℕ → List ℕ
 smallest_text None = []
 smallest_text (Some smallest) = codes ", smallest " ++ decimal smallest
 
+-- how many gaps were looked at, and the smallest
 unfoldable pub gaps_text : Gaps → List ℕ
 gaps_text gaps = decimal gaps.count ++ (codes " gaps" ++ smallest_text gaps.smallest)
 
