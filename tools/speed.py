@@ -1,7 +1,9 @@
 #!/usr/bin/env python3
 """Measures the programs that ./speed has built, and prints the times as Markdown. Called by ./speed.
 
-usage: tools/speed.py RUNS
+usage: tools/speed.py RUNS [BEFORE]
+
+BEFORE is a bench that was built before a change. It takes its turns with the others, and has a table beside the bench of now.
 """
 
 import datetime
@@ -79,9 +81,9 @@ def printed(program, path):
     return check.hexdigest(), done.returncode
 
 
-def check_alike(path):
-    """Every file has only events that can be, so both programs have to end with status 0, with the same output."""
-    answers = {printed(program, path) for program in PROGRAMS.values()}
+def check_alike(programs, path):
+    """Every file has only events that can be, so all programs have to end with status 0, with the same output."""
+    answers = {printed(program, path) for program in programs.values()}
     if len(answers) != 1:
         give_up(f"the programs do not print the same, or end alike, at {path.name}")
     if answers.pop()[1] != 0:
@@ -96,12 +98,16 @@ def play(program, path):
     return Run(float(seconds), int(kilobytes) / 1024)
 
 
-def played(path, runs):
+def played(programs, path, runs):
     """The runs of each program, which take turns."""
-    check_alike(path)
+    check_alike(programs, path)
     say(f"playing {path.name}, {runs} times with each program")
-    turns = [{name: play(program, path) for name, program in PROGRAMS.items()} for _ in range(runs)]
-    return {name: [turn[name] for turn in turns] for name in PROGRAMS}
+    turns = [{name: play(program, path) for name, program in programs.items()} for _ in range(runs)]
+    return {name: [turn[name] for turn in turns] for name in programs}
+
+
+def seconds(turns, program):
+    return [run.seconds for run in turns[program]]
 
 
 def both(values, form):
@@ -121,26 +127,32 @@ def heading(*cells):
     return [row(*cells), "|" + "---|" * len(cells)]
 
 
-def file_rows(folder, runs):
+def file_rows(files):
     yield from heading("File", "Events", "Rattle, s", "Rust, s", "Rattle / Rust", "Rattle, MB", "Rust, MB", "Rattle / Rust")
     for name, events, what in FILES:
-        turns = played(made(folder, name, events), runs)
-        seconds = [[run.seconds for run in turns[program]] for program in PROGRAMS]
-        memory = [[run.megabytes for run in turns[program]] for program in PROGRAMS]
+        times = [seconds(files[name], program) for program in PROGRAMS]
+        memory = [[run.megabytes for run in files[name][program]] for program in PROGRAMS]
         yield row(
             f"`{name}`: {what}",
             f"{events:,}",
-            *(both(values, ".3f") for values in seconds),
-            ratio(*seconds),
+            *(both(values, ".3f") for values in times),
+            ratio(*times),
             *(both(values, ".1f") for values in memory),
             ratio(*memory),
         )
 
 
+def before_rows(files):
+    yield from heading("File", "before, s", "now, s", "before / now")
+    for name, _, _ in FILES:
+        times = [seconds(files[name], program) for program in ("before", "Rattle")]
+        yield row(f"`{name}`", *(both(values, ".3f") for values in times), ratio(*times))
+
+
 def growth_rows(folder, runs):
     yield from heading("Events of `ordinary`", "Rattle, ns an event", "Rust, ns an event", "Rattle / Rust")
     for events in GROWING:
-        turns = played(made(folder, "ordinary", events), runs)
+        turns = played(PROGRAMS, made(folder, "ordinary", events), runs)
         times = [[run.seconds * 1e9 / events for run in turns[program]] for program in PROGRAMS]
         yield row(f"{events:,}", *(both(values, ".0f") for values in times), ratio(*times))
 
@@ -187,33 +199,47 @@ def versions(zlib):
     return f"{rattle}; {rust}; {gcc}; zlib {zlib}; commit {commit}"
 
 
-def report(folder, runs):
+def before_and_now(files):
+    """The bench that was built before a change beside the bench of now, which both took their turns in the same runs."""
+    yield "The bench before the change and now, processor time in the same runs:"
+    yield from ("", *before_rows(files), "")
+
+
+def report(folder, runs, before):
     here = machine()
     said_by("gcc", "-O2", "-o", folder / "measured", TOP / "tools/measured.c")
     times, facts = measured_messages(runs)
+    programs = PROGRAMS | ({"before": before} if before else {})
+    files = {name: played(programs, made(folder, name, events), runs) for name, events, _ in FILES}
     yield from (f"### Measured on {datetime.date.today().isoformat()}", "")
     yield f"Machine: {here}."
     yield f"Versions: {versions(facts['zlib'])}."
     yield f"Each was run {runs} times, in turn. Numbers are those of the best run, with the median of the runs in brackets."
     yield ""
     yield "The bench and the program of `reference`, processor time and the most memory:"
-    yield from ("", *file_rows(folder, runs), "", "How the time grows, in nanoseconds of the processor for each event:", "")
+    yield from ("", *file_rows(files), "")
+    weak, ordinary = (seconds(files[name], "Rattle") for name in ("brake-1", "ordinary"))
+    yield f"The bench takes {ratio(weak, ordinary)} times as long on `brake-1` as on `ordinary`."
+    yield ""
+    if before:
+        yield from before_and_now(files)
+    yield from ("How the time grows, in nanoseconds of the processor for each event:", "")
     yield from (*growth_rows(folder, runs), "")
     yield "A message, in nanoseconds of the processor, from memory and into memory that was prepared before"
     yield f"({int(facts['agreed']):,} answers agreed before; zlib's time is that of the check alone):"
     yield from ("", *message_rows(times))
 
 
-def main(runs):
+def main(runs, before):
     for program in (*PROGRAMS.values(), MESSAGES):
         if not os.access(program, os.X_OK):
             give_up(f"{program} is not there: ./speed builds it")
     with tempfile.TemporaryDirectory() as folder:
-        lines = list(report(pathlib.Path(folder), runs))
+        lines = list(report(pathlib.Path(folder), runs, before))
     print("\n".join(lines))
 
 
 if __name__ == "__main__":
-    if len(sys.argv) != 2 or not sys.argv[1].isdecimal() or int(sys.argv[1]) < 1:
+    if len(sys.argv) not in (2, 3) or not sys.argv[1].isdecimal() or int(sys.argv[1]) < 1:
         sys.exit(__doc__)
-    main(int(sys.argv[1]))
+    main(int(sys.argv[1]), pathlib.Path(sys.argv[2]).resolve() if len(sys.argv) == 3 else None)
