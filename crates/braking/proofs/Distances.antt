@@ -1,4 +1,4 @@
--- Laws of the braking distance. Assumes nothing.
+-- Laws of the braking distance, and the formula for it. Assumes nothing.
 use Rattle.std.proofs.Common.{◌≡◌, ℕ, zero, suc, ◌+◌, ◌-◌, ◌*◌, ◌/◌, ◌<◌, ◌≤◌, List, [], ◌∷◌, refl, ap, arith}
 use Rattle.std.proofs.lemmas.Bool.Decides.{nat_tests}
 use Rattle.braking.specs.declared.brakes.Brakes.{Brakes}
@@ -64,11 +64,11 @@ pub worked_example : WorkedExample
 unfolding distance distance_in
 worked_example = refl
 
--- speeds, each less than the one before by the brake, come together to their number times the mean of the first and the last: here with one more
-series : (n b last : ℕ) → suc (suc n) * (last + suc n * b + last) / 2 ≡ last + suc n * b + suc n * (last + n * b + last) / 2
-series n b last = omega arith
+-- speeds that fall by the brake add up to their number times the mean of the first and the last: with one more before them, it is added
+series : (n brake last : ℕ) → suc (suc n) * (last + suc n * brake + last) / 2 ≡ last + suc n * brake + suc n * (last + n * brake + last) / 2
+series n brake last = omega arith
 
--- where n ticks of braking end above 0, the distance is these speeds and n blurs
+-- where just n ticks of braking end above 0, the distance is the sum of the speeds after them, and n blurs
 of_ticks : (b : Brakes) (v n : ℕ) → 0 < b.brake → n * b.brake ≤ v - 1 → v ≤ n * b.brake + b.brake →
     n * (v - b.brake + (v - n * b.brake)) / 2 + n * b.blur ≡ distance b v
 of_ticks b v zero hb low high = omega (arith, distance_low b v (omega arith))
@@ -81,7 +81,7 @@ of_ticks b v (suc (suc n)) hb low high =
     let more : suc (suc n) * (w + last) ≡ suc (suc n) * (last + suc n * b.brake + last) = ap (λ x. suc (suc n) * x) (omega arith) in
     omega (arith, before, speeds, more, series n b.brake last, (rule b hb).1 v (omega arith))
 
--- the braking distance at once: how many ticks these are, is told by a division
+-- the braking distance at once: a division tells how many ticks these are
 pub at_once : (b : Brakes) (v : ℕ) → 0 < b.brake → let n = (v - 1) / b.brake in
     n * (v - b.brake + (v - n * b.brake)) / 2 + n * b.blur ≡ distance b v
 at_once b v hb = of_ticks b v ((v - 1) / b.brake) hb (omega arith) (omega arith)

@@ -29,9 +29,9 @@ impl Brakes {
     }
 
     // The braking distance from `speed`: how far the front may still come after this tick, blur included.
-    // At once, with no step for each tick: the ticks of braking that end above 0 are counted by a division, and the
-    // speeds after them, each less than the one before by the brake, come together to their number times the mean
-    // of the first and the last. Each of these ticks has its blur.
+    // With no step for each tick: a division counts the ticks of braking that end above 0. The speeds after them fall by
+    // the brake, so they add up to their number times the mean of the first and the last; halved at the end, since only
+    // the product is sure to be even. Each of these ticks has its blur.
     #[tactic(auto, using(crate::proofs::Distances::at_once, crate::proofs::Distances::distance_low, crate::proofs::Distances::distance_bound))]
     pub fn braking_distance(self, speed: u64) -> Result<u64, Refusal>
         ensures value { result ≡ distance_checked self speed }

@@ -1,4 +1,4 @@
-// Examples worked out by hand, apart from the definitions.
+// Examples worked out by hand, apart from the definitions; and the braking distance held against its rule.
 use crate::brakes::Brakes;
 use crate::limits::{check_counts, check_place, check_speed, check_train};
 use crate::refusal::Refusal;
@@ -19,23 +19,21 @@ fn longest_distances(rt: HostRuntime) {
     assert_eq!(rt; strongest.braking_distance(10_000), Ok(495_000));
 }
 
-// The rule, walked down from each speed: 0 up to the brake, and above it the speed that is left, the blur, and the
-// distance from the speed that is left, which was held against the rule before.
+// The rule at each speed, from 0 up: 0 up to the brake, and above it the speed that is left, the blur, and the distance
+// from the speed that is left, which was held against the rule before.
 #[test]
 fn at_once_as_tick_by_tick(rt: HostRuntime) {
     for brake in 1..=100 {
         for blur in [0, 1, 100] {
             let brakes = Brakes { brake, blur };
             for speed in 0..=10_000 {
-                let told = if speed <= brake {
-                    Ok(0)
-                } else {
+                let mut distance = 0;
+                if speed > brake {
                     let left = speed - brake;
-                    brakes
-                        .braking_distance(left)
-                        .map(|rest| left.wrapping_add(blur).wrapping_add(rest))
-                };
-                assert_eq!(rt; brakes.braking_distance(speed), told);
+                    let rest = brakes.braking_distance(left).expect(&rt, "in range");
+                    distance = left + blur + rest;
+                }
+                assert_eq!(rt; brakes.braking_distance(speed), Ok(distance));
             }
         }
     }
