@@ -3,7 +3,8 @@
 
 usage: tools/speed.py RUNS [BEFORE]
 
-BEFORE is a bench that was built before a change. It takes its turns with the others, and has a table beside the bench of now.
+BEFORE is a bench that was built before a change. It takes its turns with the others, and a table has its times
+beside those of the bench of now.
 """
 
 import datetime
@@ -106,7 +107,8 @@ def played(programs, path, runs):
     return {name: [turn[name] for turn in turns] for name in programs}
 
 
-def seconds(turns, program):
+def seconds_of(turns, program):
+    """The processor times of the runs of a program."""
     return [run.seconds for run in turns[program]]
 
 
@@ -130,7 +132,7 @@ def heading(*cells):
 def file_rows(files):
     yield from heading("File", "Events", "Rattle, s", "Rust, s", "Rattle / Rust", "Rattle, MB", "Rust, MB", "Rattle / Rust")
     for name, events, what in FILES:
-        times = [seconds(files[name], program) for program in PROGRAMS]
+        times = [seconds_of(files[name], program) for program in PROGRAMS]
         memory = [[run.megabytes for run in files[name][program]] for program in PROGRAMS]
         yield row(
             f"`{name}`: {what}",
@@ -143,9 +145,9 @@ def file_rows(files):
 
 
 def before_rows(files):
-    yield from heading("File", "before, s", "now, s", "before / now")
+    yield from heading("File", "Before, s", "Now, s", "Before / now")
     for name, _, _ in FILES:
-        times = [seconds(files[name], program) for program in ("before", "Rattle")]
+        times = [seconds_of(files[name], program) for program in ("before", "Rattle")]
         yield row(f"`{name}`", *(both(values, ".3f") for values in times), ratio(*times))
 
 
@@ -200,7 +202,7 @@ def versions(zlib):
 
 
 def before_and_now(files):
-    """The bench that was built before a change beside the bench of now, which both took their turns in the same runs."""
+    """The times of the bench that was built before a change, beside those of the bench of now, from the same runs."""
     yield "The bench before the change and now, processor time in the same runs:"
     yield from ("", *before_rows(files), "")
 
@@ -218,8 +220,8 @@ def report(folder, runs, before):
     yield ""
     yield "The bench and the program of `reference`, processor time and the most memory:"
     yield from ("", *file_rows(files), "")
-    weak, ordinary = (seconds(files[name], "Rattle") for name in ("brake-1", "ordinary"))
-    yield f"The bench takes {ratio(weak, ordinary)} times as long on `brake-1` as on `ordinary`."
+    weak, ordinary = (seconds_of(files[name], "Rattle") for name in ("brake-1", "ordinary"))
+    yield f"On `brake-1` the bench takes {ratio(weak, ordinary)} of its time on `ordinary`."
     yield ""
     if before:
         yield from before_and_now(files)
