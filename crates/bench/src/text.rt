@@ -1,7 +1,7 @@
 // Files and standard input, read whole.
+use std::fmt;
 use std::fs::File;
 use std::io::{self, BufReader, Read};
-use std::{fmt, fs};
 
 #[derive(Debug, Drop)]
 pub enum TextError {
@@ -47,14 +47,11 @@ fn read_input(rt: &HostRuntime) -> io::Result<Vec<u8>> {
     Ok(bytes)
 }
 
-// A regular file in one piece, where its size is known; another one as it comes.
+// Memory is made at once for a file whose size is known. What then comes is read, be it more or less.
 fn read_file(rt: &HostRuntime, name: &str) -> io::Result<Vec<u8>> {
     let mut file = File::open(rt, name)?;
-    let about = file.metadata()?;
-    if !about.is_file() || about.len() == 0 {
-        return fs::read(rt, name);
-    }
-    let mut bytes = vec![in rt.alloc(); 0u8; about.len() as usize]?;
-    file.read_exact(&mut bytes)?;
+    let size = file.metadata()?.len();
+    let mut bytes = Vec::with_capacity(rt.alloc(), size as usize)?;
+    file.read_to_end(&mut bytes)?;
     Ok(bytes)
 }
