@@ -1,38 +1,16 @@
 -- Four bytes at once by four tables are four bytes one after the other. Assumes nothing.
 use Rattle.std.proofs.Common.{◌≡◌, ℕ, zero, suc, ◌+◌, ◌*◌, ◌/◌, ◌%◌, ◌^◌, ◌<◌, List, [], ◌∷◌, length, take, drop, fold, slice_index, refl, sym, ap, ap₂, ◌∙◌, arith}
 use Rattle.std.specs.Int.{w32, from_le_bytes}
-use Rattle.std.specs.Int.Bits.{bit_xor, xor_assoc, xor_shifted, xor_zero_r}
+use Rattle.std.specs.Int.Bits.{bit_xor, xor_assoc, xor_shifted}
 use Rattle.std.specs.Simd.{first_chunks}
 use Rattle.std.proofs.lemmas.List.{drop-drop, take-append-drop}
 use Rattle.std.proofs.lemmas.List.FromFn.{get_or-map-range_with_len}
 use Rattle.std.proofs.lemmas.List.Sums.{fold-append}
 use Rattle.std.proofs.lemmas.Nat.{mod_below, pow_pos, shr-shr, shr_split, xor_comm, xor_lt}
-use Rattle.crc.specs.Crc.{after_bit, after_bits, after_byte, after_bytes}
+use Rattle.crc.specs.Crc.{after_bits, after_byte, after_bytes}
 use Rattle.crc.specs.Table.{by_tables, four_entries, later_table}
 use Rattle.crc.proofs.Linear.{bits_xor, bits_shift}
-
-bits_add : (m n a : ℕ) → after_bits (m + n) a ≡ after_bits n (after_bits m a)
-bits_add zero n a = let none : zero + n ≡ n = omega arith in ap (λ k. after_bits k a) none
-bits_add (suc m) n a = let one : suc m + n ≡ suc (m + n) = omega arith in ap (λ k. after_bits k a) one ∙ bits_add m n (after_bit a)
-
--- what is added after m bits can be added before them, above those m
-bits_joined : (m n register low high : ℕ) → low < 2 ^ m → after_bits n (bit_xor (after_bits m (bit_xor register low)) high) ≡ after_bits (m + n) (bit_xor register (high * 2 ^ m + low))
-bits_joined m n register low high h =
-    let joined : bit_xor (bit_xor register low) (high * 2 ^ m) ≡ bit_xor register (high * 2 ^ m + low) = grind (arith, xor_assoc, xor_comm, xor_shifted high m low h) in
-    rw (← joined, bits_add, bits_xor m (bit_xor register low), bits_shift) refl
-
--- bytes as one number, low byte first
-number : List ℕ → ℕ
-number [] = 0
-number (byte ∷ bytes) = number bytes * 2 ^ 8 + byte
-
--- bytes can all be added before their bits fall out
-as_number : (bytes : List ℕ) (register : ℕ) → ((i : ℕ) → slice_index bytes i < 256) → after_bytes register bytes ≡ after_bits (length bytes * 8) (bit_xor register (number bytes))
-unfolding after_byte after_bytes number
-as_number [] register small = sym (xor_zero_r register)
-as_number (byte ∷ bytes) register small =
-    let more : 8 + length bytes * 8 ≡ suc (length bytes) * 8 = omega arith in
-    as_number bytes (after_bits 8 (bit_xor register byte)) (λ i. small (suc i)) ∙ bits_joined 8 (length bytes * 8) register byte (number bytes) (small 0) ∙ ap (λ k. after_bits k (bit_xor register (number bytes * 2 ^ 8 + byte))) more
+use Rattle.crc.proofs.Numbers.{bits_add, number, as_number}
 
 same_number : (bytes : List ℕ) → length bytes ≡ 4 → from_le_bytes w32 bytes ≡ number bytes
 unfolding number

@@ -1,3 +1,4 @@
 pub mod Fours
 pub mod Linear
+pub mod Numbers
 pub mod Range

@@ -26,7 +26,7 @@ bits_shift zero a = omega arith
 bits_shift (suc n) a = rw (shifted_half, shifted_even, xor_zero_r) (bits_shift n a)
 
 -- the n low bits act, and the others move down
-bits_low : (n high low : ℕ) → after_bits n (bit_xor (high * 2 ^ n) low) ≡ bit_xor high (after_bits n low)
+pub bits_low : (n high low : ℕ) → after_bits n (bit_xor (high * 2 ^ n) low) ≡ bit_xor high (after_bits n low)
 bits_low n high low = rw (bits_xor, bits_shift)
 
 -- what the table has for the low byte is all that a byte does but for moving the others down

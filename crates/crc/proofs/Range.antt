@@ -1,5 +1,5 @@
 -- Lists of bytes, and that their check has 32 bits. Assumes nothing.
-use Rattle.std.proofs.Common.{ℕ, zero, suc, ◌/◌, ◌^◌, ◌<◌, List, [], ◌∷◌, arith}
+use Rattle.std.proofs.Common.{ℕ, zero, suc, ◌/◌, ◌^◌, ◌<◌, List, [], ◌∷◌, ◌++◌, take, arith}
 use Rattle.std.proofs.lemmas.Nat.{xor_lt}
 use Rattle.crc.specs.Crc.{AllBytes, all_ones, after_bits, after_byte, after_bytes, crc32_of}
 
@@ -8,6 +8,15 @@ none = record { each = λ i. omega arith }
 
 pub one_more : {byte : ℕ} {bytes : List ℕ} → byte < 256 → AllBytes bytes → AllBytes (byte ∷ bytes)
 one_more h all = record { each = λ i. grind (arith, all.each) }
+
+pub append_bytes : (front back : List ℕ) → AllBytes front → AllBytes back → AllBytes (front ++ back)
+append_bytes [] back a b = b
+append_bytes (byte ∷ front) back a b = one_more (a.each 0) (append_bytes front back (record { each = λ i. a.each (suc i) }) b)
+
+pub take_bytes : (n : ℕ) (bytes : List ℕ) → AllBytes bytes → AllBytes (take n bytes)
+take_bytes zero bytes all = none
+take_bytes (suc n) [] all = none
+take_bytes (suc n) (byte ∷ bytes) all = one_more (all.each 0) (take_bytes n bytes (record { each = λ i. all.each (suc i) }))
 
 bits_lt : (n register : ℕ) → register < 2 ^ 32 → after_bits n register < 2 ^ 32
 bits_lt zero register h = h
