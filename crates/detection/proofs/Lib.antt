@@ -1,0 +1,5 @@
+pub mod Among
+pub mod Apart
+pub mod Sums
+pub mod Quarters
+pub mod Few
