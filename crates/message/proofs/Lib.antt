@@ -1,1 +1,2 @@
 pub mod RoundTrip
+pub mod Changes

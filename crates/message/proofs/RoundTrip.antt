@@ -9,9 +9,12 @@ use Rattle.message.specs.declared.message.Message.{Message}
 use Rattle.message.specs.Messages.{message_checked}
 use Rattle.message.specs.Bytes.{four_bytes, number_at, body, written, received}
 
--- the check of a message that can be fits four bytes
-check_fits : (m : Message) → message_checked m ≡ Ok tt → crc32_of (body m) < 2 ^ 32
-check_fits m h = crc32_lt (body m) (search (arith, nat_tests, one_more, none))
+-- a message that can be fits eight bytes, and its check four
+pub body_fits : (m : Message) → message_checked m ≡ Ok tt → AllBytes (body m)
+body_fits m h = search (arith, nat_tests, one_more, none)
+
+pub check_fits : (m : Message) → message_checked m ≡ Ok tt → crc32_of (body m) < 2 ^ 32
+check_fits m h = crc32_lt (body m) (body_fits m h)
 
 -- what writing answers is read back
 pub made_heard : (m : Message) (r : Result (List ℕ) Refusal) → r ≡ written m → IfOk r (λ bytes. received bytes ≡ Ok m)

@@ -1,6 +1,7 @@
 // A message as bytes.
 ghost use Rattle.message.specs.Messages.{kind_of};
 ghost use Rattle.message.specs.Bytes.{received, written};
+ghost use Rattle.message.specs.Changes.{FewChangesFound};
 ghost use Rattle.message.specs.Numbers.{numbers_written, written_numbers};
 ghost use Rattle.std.specs.Prelude.{◌≡◌, IfOk, Ok};
 
@@ -10,11 +11,13 @@ use braking::Refusal;
 use crc::crc32;
 
 impl Message {
-    // Its bytes, which are read as this message. No `TryFrom`, for the reason that `read` has.
+    // Its bytes, which are read as this message. With one to seven of their bits changed on the way they are turned away for
+    // their check. No `TryFrom`, for the reason that `read` has.
     pub fn write(self) -> Result<[u8; MESSAGE_LENGTH], Refusal>
         ensures value { result ≡ written self }
         ensures numbers { numbers_written result ≡ written_numbers self }
         ensures heard { IfOk result (λ bytes. received bytes ≡ Ok self) }
+        ensures changed { IfOk result FewChangesFound }
     {
         self.encoded()
     }

@@ -3,5 +3,7 @@
 #![tactic(auto)]
 
 #[cfg(test)]
+mod changed;
+#[cfg(test)]
 mod tests;
 pub mod vectors;

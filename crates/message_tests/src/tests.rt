@@ -26,17 +26,6 @@ fn there_and_back(rt: &impl Abort, message: Message, bytes: &[u8; 12]) {
     assert_eq!(rt; read(bytes), Ok(message));
 }
 
-fn each_bit_counts(rt: &impl Abort, bytes: &[u8; 12]) -> Result<(), Fail> {
-    for (at, byte) in bytes.iter().enumerate() {
-        for bit in [1, 2, 4, 8, 16, 32, 64, 128] {
-            let mut changed = *bytes;
-            changed[at] = *byte ^ bit;
-            turned_away(rt, &changed, 4, 8)?;
-        }
-    }
-    Ok(())
-}
-
 fn next_is_cut(rt: &impl Abort, stream: &[u8]) {
     let wanted = if stream.len() < 12 {
         Next {
@@ -66,14 +55,6 @@ fn messages_there_and_back(rt: HostRuntime) {
     for (train, place, bytes) in GRANTS {
         there_and_back(&rt, Message::Grant { train, place }, bytes);
     }
-}
-
-#[test]
-fn one_changed_bit_is_turned_away(rt: HostRuntime) -> Result<(), Fail> {
-    for (_, _, bytes) in REPORTS.iter().chain(&GRANTS) {
-        each_bit_counts(&rt, bytes)?;
-    }
-    Ok(())
 }
 
 #[test]
