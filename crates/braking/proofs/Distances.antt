@@ -64,7 +64,8 @@ pub worked_example : WorkedExample
 unfolding distance distance_in
 worked_example = refl
 
--- speeds that fall by the brake add up to their number times the mean of the first and the last: with one more before them, it is added
+-- Speeds that fall by the brake add up to their number times the mean of the first and the last: one more of them, at the
+-- front, adds just itself.
 series : (n brake last : ℕ) → suc (suc n) * (last + suc n * brake + last) / 2 ≡ last + suc n * brake + suc n * (last + n * brake + last) / 2
 series n brake last = omega arith
 

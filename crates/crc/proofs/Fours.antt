@@ -48,7 +48,7 @@ pub four_bytes : (register : ℕ) (bytes : List ℕ) → register < 2 ^ 32 → l
 four_bytes register bytes r l small =
     let fits = xor_lt 32 register (from_le_bytes w32 bytes) r (omega (arith, small 0, small 1, small 2, small 3)) in
     let bits : 32 ≡ length bytes * 8 = omega arith in
-    entries_are _ fits ∙ ap₂ (λ k n. after_bits k (bit_xor register n)) bits (same_number bytes l) ∙ sym (as_number bytes register small)
+    entries_are _ fits ∙ ap₂ (λ k n. after_bits k (bit_xor register n)) bits (same_number bytes l) ∙ sym (as_number bytes register (record { each = small }))
 
 -- the first bytes four at a time, and then those that are left one at a time
 pub fours_first : (count register : ℕ) (bytes : List ℕ) → fold after_byte (fold after_bytes register (first_chunks 4 count bytes)) (drop (count * 4) bytes) ≡ after_bytes register bytes

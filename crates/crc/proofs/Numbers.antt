@@ -1,9 +1,10 @@
 -- Bytes as one number, all added to a register before any bit falls out, and what they then leave. Assumes nothing.
-use Rattle.std.proofs.Common.{◌≡◌, ℕ, zero, suc, ◌+◌, ◌*◌, ◌^◌, ◌<◌, List, [], ◌∷◌, length, slice_index, refl, sym, ap, subst, ◌∙◌, arith}
+use Rattle.std.proofs.Common.{◌≡◌, ℕ, zero, suc, ◌+◌, ◌*◌, ◌^◌, ◌<◌, List, [], ◌∷◌, length, refl, sym, ap, subst, ◌∙◌, arith}
 use Rattle.std.specs.Int.Bits.{bit_xor, xor_assoc, xor_self, xor_shifted, xor_zero_r}
-use Rattle.std.proofs.lemmas.Nat.{pow-add, xor_comm}
+use Rattle.std.proofs.lemmas.Nat.{pow-add, pow_pos, xor_comm}
 use Rattle.crc.specs.Crc.{AllBytes, all_ones, after_bit, after_bits, after_byte, after_bytes, crc32_of}
 use Rattle.crc.proofs.Linear.{bits_xor, bits_shift, bits_low}
+use Rattle.crc.proofs.Range.{one_fewer}
 
 pub bits_add : (m n a : ℕ) → after_bits (m + n) a ≡ after_bits n (after_bits m a)
 bits_add zero n a = let none : zero + n ≡ n = omega arith in ap (λ k. after_bits k a) none
@@ -21,19 +22,19 @@ number [] = 0
 number (byte ∷ bytes) = number bytes * 2 ^ 8 + byte
 
 -- bytes can all be added before their bits fall out
-pub as_number : (bytes : List ℕ) (register : ℕ) → ((i : ℕ) → slice_index bytes i < 256) → after_bytes register bytes ≡ after_bits (length bytes * 8) (bit_xor register (number bytes))
+pub as_number : (bytes : List ℕ) (register : ℕ) → AllBytes bytes → after_bytes register bytes ≡ after_bits (length bytes * 8) (bit_xor register (number bytes))
 unfolding after_byte after_bytes number
-as_number [] register small = sym (xor_zero_r register)
-as_number (byte ∷ bytes) register small =
+as_number [] register all = sym (xor_zero_r register)
+as_number (byte ∷ bytes) register all =
     let more : 8 + length bytes * 8 ≡ suc (length bytes) * 8 = omega arith in
-    as_number bytes (after_bits 8 (bit_xor register byte)) (λ i. small (suc i)) ∙ bits_joined 8 (length bytes * 8) register byte (number bytes) (small 0) ∙ ap (λ k. after_bits k (bit_xor register (number bytes * 2 ^ 8 + byte))) more
+    as_number bytes (after_bits 8 (bit_xor register byte)) (one_fewer all) ∙ bits_joined 8 (length bytes * 8) register byte (number bytes) (all.each 0) ∙ ap (λ k. after_bits k (bit_xor register (number bytes * 2 ^ 8 + byte))) more
 
-pub number_lt : (bytes : List ℕ) → AllBytes bytes → number bytes < 2 ^ (length bytes * 8)
+pub number_lt : (n : ℕ) (bytes : List ℕ) → AllBytes bytes → length bytes * 8 ≡ n → number bytes < 2 ^ n
 unfolding number
-number_lt [] all = omega arith
-number_lt (byte ∷ bytes) all =
-    let more : length bytes * 8 + 8 ≡ suc (length bytes) * 8 = omega arith in
-    let rest = number_lt bytes (record { each = λ i. all.each (suc i) }) in
+number_lt n [] all l = omega (arith, pow_pos n)
+number_lt n (byte ∷ bytes) all l =
+    let more : length bytes * 8 + 8 ≡ n = omega arith in
+    let rest = number_lt (length bytes * 8) bytes (one_fewer all) refl in
     subst (λ k. number bytes * 256 + byte < k) (sym (pow-add 2 (length bytes * 8) 8) ∙ ap (λ k. 2 ^ k) more) (omega (arith, rest, all.each 0))
 
 -- what is added twice is gone
@@ -43,8 +44,7 @@ added_twice a b c = grind (arith, xor_assoc, xor_comm, xor_self b, xor_zero_r)
 -- with their check above them, all bytes of one length leave the same
 pub left_of_checked : (n : ℕ) (bytes : List ℕ) → AllBytes bytes → length bytes * 8 ≡ n → after_bits n (crc32_of bytes * 2 ^ n + number bytes) ≡ bit_xor (after_bits n all_ones) all_ones
 left_of_checked n bytes all l =
-    let low : number bytes < 2 ^ n = subst (λ k. number bytes < 2 ^ k) l (number_lt bytes all) in
     let register : after_bytes all_ones bytes ≡ bit_xor (after_bits n all_ones) (after_bits n (number bytes)) =
-    as_number bytes all_ones (λ i. all.each i) ∙ ap (λ k. after_bits k (bit_xor all_ones (number bytes))) l ∙ bits_xor n all_ones (number bytes) in
-    ap (after_bits n) (sym (xor_shifted (crc32_of bytes) n (number bytes) low)) ∙ bits_low n (crc32_of bytes) (number bytes)
+    as_number bytes all_ones all ∙ ap (λ k. after_bits k (bit_xor all_ones (number bytes))) l ∙ bits_xor n all_ones (number bytes) in
+    ap (after_bits n) (sym (xor_shifted (crc32_of bytes) n (number bytes) (number_lt n bytes all l))) ∙ bits_low n (crc32_of bytes) (number bytes)
     ∙ ap (λ r. bit_xor (bit_xor r all_ones) (after_bits n (number bytes))) register ∙ added_twice (after_bits n all_ones) (after_bits n (number bytes)) all_ones

@@ -1,5 +1,5 @@
 -- Few changed bits are found by the check. Assumes nothing.
-use Rattle.std.proofs.Common.{◌≡◌, ◌≢◌, ℕ, suc, ◌+◌, ◌*◌, ◌^◌, ◌<◌, List, [], ◌∷◌, length, take, IfOk, Ok, Err, slice_index, refl, sym, ap, ap₂, subst, ◌∙◌, length-take, arith}
+use Rattle.std.proofs.Common.{◌≡◌, ◌≢◌, ℕ, ◌+◌, ◌*◌, ◌^◌, List, [], ◌∷◌, length, take, IfOk, Ok, Err, slice_index, refl, sym, ap, ap₂, subst, ◌∙◌, length-take, arith}
 use Rattle.std.specs.Prelude.{count_ones}
 use Rattle.std.specs.Int.Bits.{bit_xor, xor_self}
 use Rattle.std.proofs.lemmas.List.FromFn.{fill_by_all}
@@ -9,7 +9,7 @@ use Rattle.braking.specs.Refusals.{Checked, ◌then◌}
 use Rattle.crc.specs.Crc.{AllBytes, all_ones, after_bits, crc32_of}
 use Rattle.crc.proofs.Linear.{bits_xor}
 use Rattle.crc.proofs.Numbers.{number, number_lt, left_of_checked}
-use Rattle.crc.proofs.Range.{none, one_more, append_bytes, take_bytes}
+use Rattle.crc.proofs.Range.{none, one_more, one_fewer, append_bytes, take_bytes}
 use Rattle.detection.proofs.Few.{few_bits_found}
 use Rattle.message.specs.declared.message.Message.{Message}
 use Rattle.message.specs.Messages.{message_checked}
@@ -24,7 +24,7 @@ changed_number [] [] l a b = omega (arith, ones-le 0 0 (omega arith))
 changed_number [] (other ∷ came) l a b = absurd (omega arith)
 changed_number (byte ∷ sent) [] l a b = absurd (omega arith)
 changed_number (byte ∷ sent) (other ∷ came) l a b =
-    let rest = changed_number sent came (omega arith) (record { each = λ i. a.each (suc i) }) (record { each = λ i. b.each (suc i) }) in
+    let rest = changed_number sent came (omega arith) (one_fewer a) (one_fewer b) in
     ap count_ones (xor_block 8 (number sent) (number came) byte other (a.each 0) (b.each 0))
     ∙ ones_cat 8 (bit_xor (number sent) (number came)) (bit_xor byte other) (xor_lt 8 byte other (a.each 0) (b.each 0)) ∙ omega (arith, rest)
 
@@ -50,8 +50,7 @@ not_right : (sent came : List ℕ) → RightCheck sent → FewBitsChanged sent c
 not_right sent came c f right =
     let changed = bit_xor (number sent) (number came) in
     let bits = changed_number sent came (omega (arith, c.twelve, f.twelve)) c.all f.all in
-    let fits = λ (bytes : List ℕ) (a : AllBytes bytes) (l : length bytes ≡ 12). subst (λ n. number bytes < 2 ^ (n * 8)) l (number_lt bytes a) in
-    few_bits_found changed (xor_lt 96 (number sent) (number came) (fits sent c.all c.twelve) (fits came f.all f.twelve)) (omega (arith, bits, f.some)) (omega (arith, bits, f.few))
+    few_bits_found changed (xor_lt 96 (number sent) (number came) (number_lt 96 sent c.all (omega (arith, c.twelve))) (number_lt 96 came f.all (omega (arith, f.twelve)))) (omega (arith, bits, f.some)) (omega (arith, bits, f.few))
     (bits_xor 64 (number sent) (number came) ∙ ap₂ bit_xor (left_of sent c) (left_of came (record { all = f.all; twelve = f.twelve; right = right }))
     ∙ xor_self (bit_xor (after_bits 64 all_ones) all_ones))
 
