@@ -12,7 +12,8 @@ use crate::progress::Progress;
 use crate::refusal::{Reason, Refused};
 use braking::Refusal;
 use braking::limits::PLACE_MAX;
-use line::{Gaps, Line, NewError, Seen, Standing, StepError};
+use line::{Gaps, Line, NewError, Seen, StepError};
+use onboard::InitialTrain;
 use safety::Event;
 use scenario::{Head, HeadLine, Reader, Stop, explain, misplaced_by, read_head_line, why_not};
 use std::alloc::{AllocError, Global};
@@ -158,7 +159,7 @@ fn new_line<'a>(alloc: Global, lines: &[HeadLine]) -> Result<Line, PlayError<'a>
     }
 }
 
-fn why_not_begin<'a>(trains: &[Standing], refusal: Refusal) -> Reason<'a> {
+fn why_not_begin<'a>(trains: &[InitialTrain], refusal: Refusal) -> Reason<'a> {
     let Refusal::NotInitial { train } = refusal else {
         return Reason::Listed;
     };

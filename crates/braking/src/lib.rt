@@ -9,6 +9,3 @@ pub mod refusal;
 pub use brakes::Brakes;
 pub use laws::distance_laws;
 pub use refusal::Refusal;
-
-#[cfg(test)]
-mod tests;

@@ -15,20 +15,21 @@ use Rattle.safety.specs.Events.{Came}
 use Rattle.safety.proofs.Safe.{all_silent}
 use Rattle.line.specs.declared.new_error.NewError.{NewError}
 use Rattle.line.specs.declared.new_error.NewError.TheVariants.{Refused}
-use Rattle.line.specs.declared.initial.Standing.{Standing}
-use Rattle.line.specs.Initial.{FirstWrong, Made, fits, trains_checked, trains_of, line_of, new_line}
+use Rattle.onboard.specs.declared.initial_train.InitialTrain.{InitialTrain}
+use Rattle.line.specs.Initial.{FirstWrong, Made, trains_checked, trains_of, line_of, new_line}
+use Rattle.onboard.specs.InitialTrain.{fits}
 
 -- one train more fits
-pub checked_more : (limit train : ℕ) (ts : List Standing) (d : Standing) → train < length ts → fits limit (get_or ts train d) ≡ true →
+pub checked_more : (limit train : ℕ) (ts : List InitialTrain) (d : InitialTrain) → train < length ts → fits limit (get_or ts train d) ≡ true →
     trains_checked limit train (drop train ts) ≡ trains_checked ((get_or ts train d).front - (get_or ts train d).length) (train + 1) (drop (train + 1) ts)
 checked_more limit train ts d l f = ap (trains_checked limit train) (drop_more ts train d l) ∙ grind (arith, nat_tests)
 
 -- a list of trains that fit: the first does, and so do the others behind it
-first_fits : (limit train : ℕ) (t : Standing) (ts : List Standing) → trains_checked limit train (t ∷ ts) ≡ Ok tt →
+first_fits : (limit train : ℕ) (t : InitialTrain) (ts : List InitialTrain) → trains_checked limit train (t ∷ ts) ≡ Ok tt →
     (fits limit t ≡ true) × (trains_checked (t.front - t.length) (train + 1) ts ≡ Ok tt)
 first_fits limit train t ts f = grind (arith, nat_tests)
 
-all_stand : (b : Brakes) (limit train : ℕ) (ts : List Standing) → brakes_checked b ≡ Ok tt → limit ≤ place_max →
+all_stand : (b : Brakes) (limit train : ℕ) (ts : List InitialTrain) → brakes_checked b ≡ Ok tt → limit ≤ place_max →
     trains_checked limit train ts ≡ Ok tt →
     (i : ℕ) → Stands (get_or (trains_of b train ts) i no_train)
 all_stand b limit train [] hb l f i = record { speed = refl; brakes = refl; on_line = omega arith; low = omega arith; high = omega arith; end = omega arith; limit = omega arith }
@@ -37,7 +38,7 @@ all_stand b limit train (t ∷ ts) hb l f (suc i) =
     let fit = first_fits limit train t ts f in
     all_stand b (t.front - t.length) (train + 1) ts hb (grind (arith, nat_tests, fit)) fit.1 i
 
-all_apart : (b : Brakes) (limit train : ℕ) (ts : List Standing) → trains_checked limit train ts ≡ Ok tt →
+all_apart : (b : Brakes) (limit train : ℕ) (ts : List InitialTrain) → trains_checked limit train ts ≡ Ok tt →
     (i : ℕ) → RearPast (get_or (trains_of b train ts) i no_train) (get_or (trains_of b train ts) (suc i) no_train).unit.end
 all_apart b limit train [] f i = record { clear = omega arith }
 all_apart b limit train (t ∷ []) f zero = grind (arith, nat_tests, first_fits limit train t [] f)
@@ -47,18 +48,18 @@ all_apart b limit train (t ∷ u ∷ ts) f zero =
     grind (arith, nat_tests)
 all_apart b limit train (t ∷ ts) f (suc i) = all_apart b (t.front - t.length) (train + 1) ts (first_fits limit train t ts f).1 i
 
-all_numbered : (b : Brakes) (train : ℕ) (ts : List Standing) (i : ℕ) → i < length (trains_of b train ts) →
+all_numbered : (b : Brakes) (train : ℕ) (ts : List InitialTrain) (i : ℕ) → i < length (trains_of b train ts) →
     (get_or (trains_of b train ts) i no_train).unit.train ≡ train + i
 all_numbered b train [] i l = absurd (omega arith)
 all_numbered b train (t ∷ ts) zero l = omega arith
 all_numbered b train (t ∷ ts) (suc i) l = omega (arith, all_numbered b (train + 1) ts i (omega arith))
 
-length-trains_of : (b : Brakes) (train : ℕ) (ts : List Standing) → length (trains_of b train ts) ≡ length ts
+length-trains_of : (b : Brakes) (train : ℕ) (ts : List InitialTrain) → length (trains_of b train ts) ≡ length ts
 length-trains_of b train [] = refl
 length-trains_of b train (t ∷ ts) = ap suc (length-trains_of b (train + 1) ts)
 
 -- trains that fit make an initial state
-checked_initial : (b : Brakes) (ts : List Standing) (controllers : ℕ) → brakes_checked b ≡ Ok tt →
+checked_initial : (b : Brakes) (ts : List InitialTrain) (controllers : ℕ) → brakes_checked b ≡ Ok tt →
     counts_checked (length ts) controllers ≡ Ok tt →
     trains_checked place_max 0 ts ≡ Ok tt → Initial (line_of b ts controllers)
 checked_initial b ts controllers hb hc f = record {
@@ -72,7 +73,7 @@ checked_initial b ts controllers hb hc f = record {
 }
 
 -- what has to pass for there to be a line
-new_parts : (b : Brakes) (ts : List Standing) (controllers : ℕ) (s : State) → new_line b ts controllers ≡ Ok s →
+new_parts : (b : Brakes) (ts : List InitialTrain) (controllers : ℕ) (s : State) → new_line b ts controllers ≡ Ok s →
     (brakes_checked b ≡ Ok tt) × (counts_checked (length ts) controllers ≡ Ok tt) × (trains_checked place_max 0 ts ≡ Ok tt) × (line_of b ts controllers ≡ s)
 new_parts b ts controllers s e =
     let first = passed (brakes_checked b) _ s e in
@@ -83,16 +84,16 @@ new_parts b ts controllers s e =
 came_initial : (s : State) → Initial s → Came s
 came_initial s i = record { first = s; events = []; initial = i; can_be = tt; is = refl }
 
-pub new_initial : (b : Brakes) (ts : List Standing) (controllers : ℕ) (s : State) → new_line b ts controllers ≡ Ok s → Initial s
+pub new_initial : (b : Brakes) (ts : List InitialTrain) (controllers : ℕ) (s : State) → new_line b ts controllers ≡ Ok s → Initial s
 new_initial b ts controllers s e =
     let parts = new_parts b ts controllers s e in
     subst Initial parts.3 (checked_initial b ts controllers parts.0 parts.1 parts.2)
 
-pub new_came : (b : Brakes) (ts : List Standing) (controllers : ℕ) (s : State) → new_line b ts controllers ≡ Ok s → ∥ Came s ∥₁
+pub new_came : (b : Brakes) (ts : List InitialTrain) (controllers : ℕ) (s : State) → new_line b ts controllers ≡ Ok s → ∥ Came s ∥₁
 new_came b ts controllers s e = grind (arith, common_steps, came_initial s (new_initial b ts controllers s e))
 
 -- and an initial state has trains that fit
-initial_checked : (b : Brakes) (limit train : ℕ) (ts : List Standing) → ((i : ℕ) → Stands (get_or (trains_of b train ts) i no_train)) →
+initial_checked : (b : Brakes) (limit train : ℕ) (ts : List InitialTrain) → ((i : ℕ) → Stands (get_or (trains_of b train ts) i no_train)) →
     ((i : ℕ) → RearPast (get_or (trains_of b train ts) i no_train) (get_or (trains_of b train ts) (suc i) no_train).unit.end) →
     (get_or (trains_of b train ts) 0 no_train).unit.end ≤ limit → trains_checked limit train ts ≡ Ok tt
 initial_checked b limit train [] stands apart first = refl
@@ -100,19 +101,19 @@ initial_checked b limit train (t ∷ ts) stands apart first =
     let rest = initial_checked b (t.front - t.length) (train + 1) ts (λ i. stands (suc i)) (λ i. apart (suc i)) (omega (arith, apart 0)) in
     grind (arith, nat_tests, stands 0)
 
-line_checked : (b : Brakes) (ts : List Standing) (controllers : ℕ) → Initial (line_of b ts controllers) →
+line_checked : (b : Brakes) (ts : List InitialTrain) (controllers : ℕ) → Initial (line_of b ts controllers) →
     trains_checked place_max 0 ts ≡ Ok tt
 line_checked b ts controllers i = initial_checked b place_max 0 ts i.stands i.apart (i.stands 0).limit
 
 -- where a train is refused, the trains ahead of it fit, and with it they do not
-record WrongAt (limit first train : ℕ) (ts : List Standing) : Type 0 where
+record WrongAt (limit first train : ℕ) (ts : List InitialTrain) : Type 0 where
   pub ahead : ℕ
   pub number : train ≡ first + ahead
   pub there : ahead < length ts
   pub fit : trains_checked limit first (take ahead ts) ≡ Ok tt
   pub with_it : trains_checked limit first (take (suc ahead) ts) ≡ Err (NotInitial train)
 
-wrong_first : (limit first train : ℕ) (t : Standing) (ts : List Standing) (fit : Bool) → fits limit t ≡ fit →
+wrong_first : (limit first train : ℕ) (t : InitialTrain) (ts : List InitialTrain) (fit : Bool) → fits limit t ≡ fit →
     (check fit (NotInitial first) then trains_checked (t.front - t.length) (first + 1) ts) ≡ Err (NotInitial train) →
     (trains_checked (t.front - t.length) (first + 1) ts ≡ Err (NotInitial train) → WrongAt (t.front - t.length) (first + 1) train ts) →
     WrongAt limit first train (t ∷ ts)
@@ -127,16 +128,16 @@ wrong_first limit first train t ts true q e rest =
     }
 wrong_first limit first train t ts false q e rest = record { ahead = 0; number = grind (arith, e); there = omega arith; fit = refl; with_it = grind (arith, q, e) }
 
-wrong_at : (limit first train : ℕ) (ts : List Standing) → trains_checked limit first ts ≡ Err (NotInitial train) →
+wrong_at : (limit first train : ℕ) (ts : List InitialTrain) → trains_checked limit first ts ≡ Err (NotInitial train) →
     WrongAt limit first train ts
 wrong_at limit first train [] e = grind (arith, e)
 wrong_at limit first train (t ∷ ts) e = wrong_first limit first train t ts (fits limit t) refl e (wrong_at (t.front - t.length) (first + 1) train ts)
 
-refused_parts : (b : Brakes) (ts : List Standing) (controllers train : ℕ) → new_line b ts controllers ≡ Err (NotInitial train) →
+refused_parts : (b : Brakes) (ts : List InitialTrain) (controllers train : ℕ) → new_line b ts controllers ≡ Err (NotInitial train) →
     (brakes_checked b ≡ Ok tt) × (counts_checked (length ts) controllers ≡ Ok tt) × (trains_checked place_max 0 ts ≡ Err (NotInitial train))
 refused_parts b ts controllers train e = grind (arith, e)
 
-pub refused_first : (b : Brakes) (ts : List Standing) (controllers train : ℕ) →
+pub refused_first : (b : Brakes) (ts : List InitialTrain) (controllers train : ℕ) →
     new_line b ts controllers ≡ Err (NotInitial train) → FirstWrong b ts controllers train
 refused_first b ts controllers train e =
     let parts = refused_parts b ts controllers train e in
@@ -151,6 +152,6 @@ refused_first b ts controllers train e =
       all = λ i. grind (arith, line_checked b ts controllers i, parts.2);
     }
 
-pub made_first : {A : Type 0} (state_of : A → State) (r : Result A NewError) (b : Brakes) (ts : List Standing) (controllers train : ℕ) →
+pub made_first : {A : Type 0} (state_of : A → State) (r : Result A NewError) (b : Brakes) (ts : List InitialTrain) (controllers train : ℕ) →
     Made state_of r b ts controllers → r ≡ Err (Refused (NotInitial train)) → FirstWrong b ts controllers train
 made_first state_of r b ts controllers train m e = refused_first b ts controllers train (subst (λ (x : Result _ NewError). Made state_of x b ts controllers) e m)

@@ -1,7 +1,5 @@
 -- What the line that runs holds, and what a step of it does and answers. Assumes nothing: these are definitions.
-use Rattle.std.specs.Prelude.{◌≡◌, ◌+◌, ◌≤◌, Bool, true, false, Some, None, Option, Ok, Err, Result, vec_capacity, vec_len}
-use Rattle.std.specs.declared.alloc.Global.{Global}
-use Rattle.std.specs.declared.vec.Vec.{Vec}
+use Rattle.std.specs.Prelude.{◌≡◌, ◌+◌, Bool, true, false, Some, None, Option, Ok, Err, Result}
 use Rattle.braking.specs.declared.refusal.Refusal.{Refusal}
 use Rattle.onboard.specs.declared.word.Word.{Word}
 use Rattle.onboard.specs.declared.word.Word.TheVariants.{Brake}
@@ -36,10 +34,6 @@ abbrev pub seen_at : State → Event → Option Seen
 seen_at s (Tick train wish speed) =
     Some (record { train = train; word = word_of (asked (train_at s train).unit wish); speed = speed; front = (train_at s train).front + speed })
 seen_at s _ = None
-
--- there is no room for one more in a list without more memory
-abbrev pub Full : {A : Type 0} → Vec A Global → Type 0
-Full list = vec_capacity list ≤ vec_len list
 
 -- a step from s to t: the event is done, if it can be; or it cannot be, and all is as it was. Where something is sent and
 -- the list of what was sent is full, there may be no memory to keep it, and then too all is as it was

@@ -1,5 +1,5 @@
 // How a day begins.
-ghost use Rattle.line.specs.Initial.{Made, fits, new_line, train_of, trains_checked, trains_of};
+ghost use Rattle.line.specs.Initial.{Made, new_line, trains_checked, trains_of};
 ghost use Rattle.braking.specs.Limits.{place_max};
 ghost use Rattle.braking.specs.Refusals.{done};
 ghost use Rattle.line.specs.Steps.{state};
@@ -11,52 +11,11 @@ use braking::limits::{PLACE_MAX, check_counts};
 use braking::refusal::check;
 use braking::{Brakes, Refusal};
 use controller::Controller;
-use onboard::{Onboard, Train};
+use onboard::{InitialTrain, Train};
 use std::alloc::{AllocError, Global};
 
-// A train that stands, with its unit's places.
-#[derive(Clone, Copy, PartialEq, Eq, Debug)]
-pub struct Standing {
-    pub low: u64,
-    pub front: u64,
-    pub high: u64,
-    pub end: u64,
-    pub length: u64,
-}
-
-impl Standing {
-    // All of it is on the line, and low, front, high, end and the limit are in this order.
-    fn fits(self, limit: u64) -> bool
-        ensures { result ≡ fits limit self }
-    {
-        self.length <= self.front
-            && self.low <= self.front
-            && self.front <= self.high
-            && self.high <= self.end
-            && self.end <= limit
-    }
-
-    fn train(self, brakes: Brakes, number: u64) -> Train
-        ensures { result ≡ train_of brakes number self }
-    {
-        let unit = Onboard {
-            train: number,
-            brakes,
-            length: self.length,
-            speed: 0,
-            low: self.low,
-            high: self.high,
-            end: self.end,
-        };
-        Train {
-            front: self.front,
-            unit,
-        }
-    }
-}
-
 // Whether a day can begin so: brakes, counts and trains are looked at in this order.
-fn check_initial(brakes: Brakes, trains: &[Standing], controllers: usize) -> Result<(), Refusal>
+fn check_initial(brakes: Brakes, trains: &[InitialTrain], controllers: usize) -> Result<(), Refusal>
     ensures { result ≡ done (new_line brakes trains.now controllers) }
 {
     brakes.check()?;
@@ -66,7 +25,7 @@ fn check_initial(brakes: Brakes, trains: &[Standing], controllers: usize) -> Res
 
 // The first train that does not fit behind the one ahead is refused.
 #[tactic(auto, using(crate::proofs::Beginnings::checked_more))]
-fn check_trains(trains: &[Standing]) -> Result<(), Refusal>
+fn check_trains(trains: &[InitialTrain]) -> Result<(), Refusal>
     ensures { result ≡ trains_checked place_max 0 trains.now }
 {
     let mut limit = PLACE_MAX;
@@ -78,7 +37,7 @@ fn check_trains(trains: &[Standing]) -> Result<(), Refusal>
     Ok(())
 }
 
-fn all_trains(alloc: Global, brakes: Brakes, trains: &[Standing]) -> Result<Vec<Train>, AllocError>
+fn all_trains(alloc: Global, brakes: Brakes, trains: &[InitialTrain]) -> Result<Vec<Train>, AllocError>
     ensures { IfOk result (λ v. v.items ≡ trains_of brakes 0 trains.now) }
 {
     let mut on_line = Vec::with_capacity(alloc, trains.len())?;
@@ -93,7 +52,7 @@ impl Parts {
     pub(crate) fn initial(
         alloc: Global,
         brakes: Brakes,
-        trains: &[Standing],
+        trains: &[InitialTrain],
         controllers: usize,
     ) -> Result<Parts, NewError>
         ensures { Made state result brakes trains.now controllers }

@@ -3,7 +3,7 @@
 #![tactic(auto)]
 
 pub mod gaps;
-pub mod initial;
+mod initial;
 pub mod line;
 pub mod new_error;
 mod parts;
@@ -11,7 +11,6 @@ pub mod seen;
 pub mod step_error;
 
 pub use gaps::Gaps;
-pub use initial::Standing;
 pub use line::{Line, Run};
 pub use new_error::NewError;
 pub use seen::Seen;

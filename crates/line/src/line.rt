@@ -4,14 +4,14 @@ ghost use Rattle.line.specs.declared.new_error.NewError.TheVariants.{Refused};
 ghost use Rattle.line.specs.Initial.{FirstWrong, Made};
 ghost use Rattle.line.specs.Inside.{Recorded};
 ghost use Rattle.line.specs.Runs.{Counted, Ended, GapTrue, gaps_of, seen_of};
-ghost use Rattle.line.specs.Steps.{Full, Stepped, seen_at, state};
+ghost use Rattle.braking.specs.Memory.{Full};
+ghost use Rattle.line.specs.Steps.{Stepped, seen_at, state};
 ghost use Rattle.safety.specs.Events.{after_events, Came, CanBe};
 ghost use Rattle.safety.specs.Promises.{AllPromised};
 ghost use Rattle.safety.specs.State.{Initial};
 ghost use Rattle.std.specs.Prelude.{◌≡◌, ℕ, ◌≤◌, ◌++◌, Err, IfOk, length, take};
 
 use crate::gaps::Gaps;
-use crate::initial::Standing;
 use crate::new_error::NewError;
 use crate::parts::Parts;
 use crate::seen::Seen;
@@ -19,7 +19,7 @@ use crate::step_error::StepError;
 use braking::Brakes;
 use controller::Controller;
 use message::format::MESSAGE_LENGTH;
-use onboard::Train;
+use onboard::{InitialTrain, Train};
 use safety::Event;
 use std::alloc::Global;
 
@@ -43,7 +43,7 @@ impl Line {
     pub fn new(
         alloc: Global,
         brakes: Brakes,
-        trains: &[Standing],
+        trains: &[InitialTrain],
         controllers: usize,
     ) -> Result<Line, NewError>
         ensures made { Made (λ (line : Line). state line.parts) result brakes trains.now controllers }

@@ -1,7 +1,8 @@
 // The trains, the controllers and what was sent, and what each event makes of them.
 ghost use Rattle.line.specs.Runs.{every_gap, gap};
 ghost use Rattle.line.specs.Inside.{After, AllAmong, InLimits, Sent, count_of, narrowed};
-ghost use Rattle.line.specs.Steps.{Full, Stepped, seen_at, state};
+ghost use Rattle.braking.specs.Memory.{Full};
+ghost use Rattle.line.specs.Steps.{Stepped, seen_at, state};
 ghost use Rattle.safety.specs.declared.event.Event.TheVariants.{Grant, Hear, Mark, Report, Restart, Take, Tell, Tick};
 ghost use Rattle.safety.specs.State.{State};
 ghost use Rattle.std.specs.Prelude.{◌≡◌, ℕ, ◌+◌, ◌<◌, ◌≤◌, ◌^◌, ◌++◌, IfOk, List, Some, length};

@@ -1,7 +1,8 @@
 // Which lines there are, and by what the others are refused.
 use crate::setting::{BRAKES, FIRST, SECOND, refused, two_trains};
 use braking::{Brakes, Refusal};
-use line::{Line, NewError, Standing};
+use line::{Line, NewError};
+use onboard::InitialTrain;
 use std::test::Fail;
 
 #[test]
@@ -30,19 +31,19 @@ fn trains_stand_as_they_are_given(rt: HostRuntime) -> Result<(), Fail> {
 #[test]
 fn second_train_is_refused(rt: HostRuntime) -> Result<(), Fail> {
     let wrong = [
-        Standing { low: 381, ..SECOND },
-        Standing {
+        InitialTrain { low: 381, ..SECOND },
+        InitialTrain {
             high: 379,
             ..SECOND
         },
-        Standing { end: 379, ..SECOND },
-        Standing {
+        InitialTrain { end: 379, ..SECOND },
+        InitialTrain {
             length: 381,
             ..SECOND
         },
         // the rear of the train ahead is at 400
-        Standing { end: 401, ..SECOND },
-        Standing { end: 500, ..SECOND },
+        InitialTrain { end: 401, ..SECOND },
+        InitialTrain { end: 500, ..SECOND },
     ];
     for train in wrong {
         let made = Line::new(rt.alloc(), BRAKES, &[FIRST, train], 8);
@@ -51,7 +52,7 @@ fn second_train_is_refused(rt: HostRuntime) -> Result<(), Fail> {
     let made = Line::new(
         rt.alloc(),
         BRAKES,
-        &[FIRST, Standing { end: 400, ..SECOND }],
+        &[FIRST, InitialTrain { end: 400, ..SECOND }],
         8,
     );
     assert_eq!(&rt; refused(made)?, None);
@@ -61,7 +62,7 @@ fn second_train_is_refused(rt: HostRuntime) -> Result<(), Fail> {
 // The first that does not fit is told, not the first of all and not the last.
 #[test]
 fn first_wrong_train_is_told(rt: HostRuntime) -> Result<(), Fail> {
-    let third = Standing {
+    let third = InitialTrain {
         low: 100,
         front: 100,
         high: 100,
@@ -77,7 +78,7 @@ fn first_wrong_train_is_told(rt: HostRuntime) -> Result<(), Fail> {
 // The first that applies: brake, blur, trains, controllers, and then the first train that is wrong.
 #[test]
 fn refusals_come_in_order(rt: HostRuntime) -> Result<(), Fail> {
-    let too_far = Standing {
+    let too_far = InitialTrain {
         end: 1_000_000_001,
         ..FIRST
     };

@@ -1,6 +1,7 @@
 // Runs: how far they come, what they show, and the gaps.
 use crate::setting::{BRAKES, FIRST, SECOND, two_trains};
-use line::{Gaps, Line, Run, Seen, Standing, StepError};
+use line::{Gaps, Line, Run, Seen, StepError};
+use onboard::InitialTrain;
 use message::Message;
 use onboard::Word;
 use safety::Event;
@@ -138,7 +139,7 @@ fn old_message_takes_nothing_back(rt: HostRuntime) -> Result<(), Fail> {
 // Three trains have two gaps after each event; what is seen comes after what was seen before.
 #[test]
 fn every_gap_is_looked_at(rt: HostRuntime) -> Result<(), Fail> {
-    let third = Standing {
+    let third = InitialTrain {
         low: 200,
         front: 200,
         high: 200,

@@ -1,12 +1,13 @@
 // A line of two trains, as the tests begin with it.
 use braking::Brakes;
-use line::{Line, NewError, Standing};
+use line::{Line, NewError};
+use onboard::InitialTrain;
 use std::alloc::Global;
 use std::test::Fail;
 
 pub(crate) const BRAKES: Brakes = Brakes { brake: 3, blur: 1 };
 
-pub(crate) const FIRST: Standing = Standing {
+pub(crate) const FIRST: InitialTrain = InitialTrain {
     low: 500,
     front: 500,
     high: 500,
@@ -14,7 +15,7 @@ pub(crate) const FIRST: Standing = Standing {
     length: 100,
 };
 
-pub(crate) const SECOND: Standing = Standing {
+pub(crate) const SECOND: InitialTrain = InitialTrain {
     low: 380,
     front: 380,
     high: 380,

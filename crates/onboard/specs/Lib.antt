@@ -1,5 +1,6 @@
 pub mod Rule
 pub mod Steps
 pub mod Train
+pub mod InitialTrain
 pub mod Laws
 pub mod Day

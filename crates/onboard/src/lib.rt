@@ -2,16 +2,15 @@
 #![tactic(auto)]
 
 pub mod drive;
+pub mod initial_train;
 pub mod laws;
 pub mod train;
 pub mod unit;
 pub mod word;
 
 pub use drive::may_drive;
+pub use initial_train::InitialTrain;
 pub use laws::unit_laws;
 pub use train::Train;
 pub use unit::{Grant, Onboard};
 pub use word::Word;
-
-#[cfg(test)]
-mod tests;

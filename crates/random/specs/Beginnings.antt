@@ -2,7 +2,7 @@
 use Rattle.std.specs.Prelude.{ℕ, zero, suc, ◌+◌, ◌-◌, ◌*◌, ◌==◌, min, if◌then◌else◌, List, [], ◌∷◌}
 use Rattle.rand_core.specs.Stream.{Stream}
 use Rattle.braking.specs.Limits.{place_max}
-use Rattle.line.specs.declared.initial.Standing.{Standing}
+use Rattle.onboard.specs.declared.initial_train.InitialTrain.{InitialTrain}
 use Rattle.scenario.specs.declared.entry.HeadLine.{HeadLine}
 use Rattle.random.specs.declared.day.Extent.{Extent}
 use Rattle.random.specs.Chances.{up_to, one_in}
@@ -55,7 +55,7 @@ some_blurring scale words =
     (if half.0 then 0 else min scale 200, half.1)
 
 -- a train of a high place and an end
-unfoldable pub standing : (high end scale : ℕ) → Stream → Standing × Stream
+unfoldable pub standing : (high end scale : ℕ) → Stream → InitialTrain × Stream
 standing high end scale words =
     let apart = some_blurring scale words in
     let behind_high = up_to apart.0 apart.1 in
@@ -65,7 +65,7 @@ standing high end scale words =
     (record { low = front - behind_front.0; front = front; high = high; end = end; length = min length.0 front }, length.1)
 
 -- the first train
-unfoldable pub foremost : (limit base scale : ℕ) → Stream → Standing × Stream
+unfoldable pub foremost : (limit base scale : ℕ) → Stream → InitialTrain × Stream
 foremost limit base scale words =
     let room = some_room limit scale words in
     let end = min (base + room.0) limit in
@@ -78,18 +78,18 @@ some_end limit scale words =
     if half.0 then (limit, half.1) else (limit - (up_to scale half.1).0, (up_to scale half.1).1)
 
 -- a train that stands behind a limit
-unfoldable pub behind : (limit scale : ℕ) → Stream → Standing × Stream
+unfoldable pub behind : (limit scale : ℕ) → Stream → InitialTrain × Stream
 behind limit scale words =
     let end = some_end limit scale words in
     let behind_end = up_to (scale * 3) end.1 in
     standing (end.0 - behind_end.0) end.0 scale behind_end.1
 
 -- the train of a number, where so many stand
-unfoldable pub train_at : (train limit base scale : ℕ) → Stream → Standing × Stream
+unfoldable pub train_at : (train limit base scale : ℕ) → Stream → InitialTrain × Stream
 train_at train limit base scale words = if train == 0 then foremost limit base scale words else behind limit scale words
 
 -- so many trains, one behind the other: those of the numbers from one on, the first of them behind the limit
-unfoldable pub trains_from : (train limit base scale count : ℕ) → Stream → List Standing × Stream
+unfoldable pub trains_from : (train limit base scale count : ℕ) → Stream → List InitialTrain × Stream
 trains_from train limit base scale zero words = ([], words)
 trains_from train limit base scale (suc count) words =
     let first = train_at train limit base scale words in
@@ -97,7 +97,7 @@ trains_from train limit base scale (suc count) words =
     (first.0 ∷ rest.0, rest.1)
 
 -- so many trains, with room for all of them behind the first
-unfoldable pub random_trains : (count : ℕ) → Stream → List Standing × Stream
+unfoldable pub random_trains : (count : ℕ) → Stream → List InitialTrain × Stream
 random_trains count words =
     let scale = some_scale words in
     trains_from 0 place_max ((count + 1) * 8 * scale.0) scale.0 count scale.1

@@ -1,6 +1,7 @@
 // How a random day begins.
 ghost use Rattle.braking.specs.Limits.{place_max};
-ghost use Rattle.line.specs.Initial.{fits, trains_checked};
+ghost use Rattle.line.specs.Initial.{trains_checked};
+ghost use Rattle.onboard.specs.InitialTrain.{fits};
 ghost use Rattle.random.specs.Beginnings.{behind, foremost, random_beginning, random_trains, some_blur, some_blurring, some_brake, some_end, some_room, some_scale, standing, train_at, up_to_or_all};
 ghost use Rattle.random.specs.Chances.{coming};
 ghost use Rattle.random.specs.Days.{Begins};
@@ -10,7 +11,7 @@ ghost use Rattle.std.specs.Prelude.{◌≡◌, ◌≤◌, IfOk, OnOk, Ok, length
 use crate::chance::Chance;
 use crate::day::Extent;
 use braking::limits::{BLUR_MAX, BRAKE_MAX, CONTROLLERS_MAX, PLACE_MAX, TRAINS_MAX};
-use line::Standing;
+use onboard::InitialTrain;
 use scenario::HeadLine;
 use std::alloc::{AllocError, Global};
 
@@ -38,7 +39,7 @@ fn head_lines(
     brake: u64,
     blur: u64,
     controllers: u64,
-    trains: &[Standing],
+    trains: &[InitialTrain],
 ) -> Result<Vec<HeadLine>, AllocError>
     ensures { IfOk result (λ head. head.items ≡ head_lines brake blur controllers trains.now) }
 {
@@ -58,7 +59,7 @@ fn random_trains(
     alloc: Global,
     count: u64,
     chance: &mut Chance,
-) -> Result<Vec<Standing>, AllocError>
+) -> Result<Vec<InitialTrain>, AllocError>
     requires { count ≤ 64 }
     ensures stand { IfOk result (λ trains. trains_checked place_max 0 trains.items ≡ Ok tt) }
     ensures count { IfOk result (λ trains. length trains.items ≡ count) }
@@ -136,7 +137,7 @@ fn some_scale(chance: &mut Chance) -> u64
 
 // A train that stands behind a limit, the first of all or another.
 #[tactic(auto, unfolding(crate::specs::Beginnings::train_at))]
-fn train_at(train: u64, limit: u64, base: u64, scale: u64, chance: &mut Chance) -> Standing
+fn train_at(train: u64, limit: u64, base: u64, scale: u64, chance: &mut Chance) -> InitialTrain
     requires limit { limit ≤ place_max }
     requires base { base ≤ 52000000 }
     requires scale { scale ≤ 100000 }
@@ -153,7 +154,7 @@ fn train_at(train: u64, limit: u64, base: u64, scale: u64, chance: &mut Chance) 
 
 // The first train may have far to go.
 #[tactic(auto, unfolding(crate::specs::Beginnings::foremost))]
-fn foremost(limit: u64, base: u64, scale: u64, chance: &mut Chance) -> Standing
+fn foremost(limit: u64, base: u64, scale: u64, chance: &mut Chance) -> InitialTrain
     requires limit { limit ≤ place_max }
     requires base { base ≤ 52000000 }
     requires scale { scale ≤ 100000 }
@@ -184,7 +185,7 @@ fn some_room(limit: u64, scale: u64, chance: &mut Chance) -> u64
 
 // A train that stands behind a limit, the rear of the one ahead, near it or at some distance.
 #[tactic(auto, unfolding(crate::specs::Beginnings::behind))]
-fn behind(limit: u64, scale: u64, chance: &mut Chance) -> Standing
+fn behind(limit: u64, scale: u64, chance: &mut Chance) -> InitialTrain
     requires { scale ≤ 100000 }
     ensures fits { fits limit result ≡ true }
     ensures value { result ≡ (behind limit scale (coming chance.old)).0 }
@@ -210,7 +211,7 @@ fn some_end(limit: u64, scale: u64, chance: &mut Chance) -> u64
 }
 
 #[tactic(auto, unfolding(crate::specs::Beginnings::standing))]
-fn standing(high: u64, end: u64, scale: u64, chance: &mut Chance) -> Standing
+fn standing(high: u64, end: u64, scale: u64, chance: &mut Chance) -> InitialTrain
     requires { high ≤ end }
     ensures fits { fits end result ≡ true }
     ensures end { result.end ≡ end }
@@ -221,7 +222,7 @@ fn standing(high: u64, end: u64, scale: u64, chance: &mut Chance) -> Standing
     let front = high.saturating_sub(chance.up_to(apart));
     let low = front.saturating_sub(chance.up_to(apart));
     let length = chance.up_to(scale).min(front);
-    Standing {
+    InitialTrain {
         low,
         front,
         high,

@@ -2,7 +2,7 @@
 use Rattle.std.specs.Prelude.{ℕ, List, Some, None, Option}
 use Rattle.std.specs.List.{fold, filter_map}
 use Rattle.braking.specs.declared.brakes.Brakes.{Brakes}
-use Rattle.line.specs.declared.initial.Standing.{Standing}
+use Rattle.onboard.specs.declared.initial_train.InitialTrain.{InitialTrain}
 use Rattle.scenario.specs.declared.entry.HeadLine.{HeadLine}
 use Rattle.scenario.specs.declared.entry.HeadLine.TheVariants as heads
 
@@ -24,9 +24,9 @@ abbrev pub controllers_of : List HeadLine → ℕ
 controllers_of = fold with_controllers 8
 
 -- the trains, in the order in which they are given
-abbrev pub train_of : HeadLine → Option Standing
+abbrev pub train_of : HeadLine → Option InitialTrain
 train_of (heads.Train standing) = Some standing
 train_of _ = None
 
-abbrev pub trains_of : List HeadLine → List Standing
+abbrev pub trains_of : List HeadLine → List InitialTrain
 trains_of = filter_map train_of

@@ -2,7 +2,7 @@
 use Rattle.std.specs.Prelude.{ℕ, Bool, ◌+◌, Some, None, Option, if◌then◌else◌, nat_le}
 use Rattle.message.specs.Bytes.{received}
 use Rattle.onboard.specs.Train as onboard
-use Rattle.line.specs.declared.initial.Standing.{Standing}
+use Rattle.onboard.specs.declared.initial_train.InitialTrain.{InitialTrain}
 use Rattle.safety.specs.declared.event.Event.{Event}
 use Rattle.safety.specs.declared.event.Event.TheVariants as events
 use Rattle.safety.specs.State.{State, train_at, message_at}
@@ -36,7 +36,7 @@ reason_of s (events.Take message) =
 reason_of s (events.Restart controller) = unless (has_controller s controller) (NoController controller) None
 
 -- the first thing that a train does not keep, where its end is to be at most the limit
-abbrev pub misplaced_by : Standing → (limit : ℕ) → Option Misplaced
+abbrev pub misplaced_by : InitialTrain → (limit : ℕ) → Option Misplaced
 misplaced_by train limit =
     unless (nat_le train.length train.front) Length
     (unless (nat_le train.low train.front) Low

@@ -2,7 +2,7 @@
 ghost use Rattle.scenario.specs.Texts.{same_kind};
 ghost use Rattle.std.specs.Prelude.{◌≡◌};
 
-use line::Standing;
+use onboard::InitialTrain;
 use safety::Event;
 
 // A line of the head: how a day begins.
@@ -11,7 +11,7 @@ pub enum HeadLine {
     Brake(u64),
     Blur(u64),
     Controllers(u64),
-    Train(Standing),
+    Train(InitialTrain),
 }
 
 impl HeadLine {

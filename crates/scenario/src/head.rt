@@ -4,14 +4,14 @@ ghost use Rattle.std.specs.Prelude.{◌≡◌, ◌<◌, IfOk, OnErr, length};
 
 use crate::entry::HeadLine;
 use braking::Brakes;
-use line::Standing;
+use onboard::InitialTrain;
 use std::alloc::{AllocError, Global};
 
 #[derive(Drop)]
 pub struct Head {
     pub brakes: Brakes,
     pub controllers: u64,
-    pub trains: Vec<Standing>,
+    pub trains: Vec<InitialTrain>,
 }
 
 impl Head {

@@ -1,10 +1,10 @@
 // Why a day cannot begin with a train as it is given, and what would be right.
-ghost use Rattle.line.specs.Initial.{fits};
+ghost use Rattle.onboard.specs.InitialTrain.{fits};
 ghost use Rattle.scenario.specs.Reasons.{misplaced_by};
 ghost use Rattle.scenario.specs.Told.{misplaced_text};
 ghost use Rattle.std.specs.Prelude.{◌≡◌, Some, is_none};
 
-use line::Standing;
+use onboard::InitialTrain;
 use std::fmt;
 
 // What is not as it has to be.
@@ -18,7 +18,7 @@ pub enum Misplaced {
 }
 
 // The first of these that the train does not keep; its end is to be at most the limit.
-pub fn misplaced_by(train: Standing, limit: u64) -> Option<Misplaced>
+pub fn misplaced_by(train: InitialTrain, limit: u64) -> Option<Misplaced>
     ensures value { result ≡ misplaced_by train limit }
     ensures none { is_none result ≡ fits limit train }
 {

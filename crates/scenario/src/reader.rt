@@ -3,7 +3,7 @@ ghost use Rattle.scenario.specs.Texts.{EventsRead, GoneOn, HeadRead, Said, is_do
 ghost use Rattle.scenario.specs.declared.entry.HeadLine.{HeadLine};
 ghost use Rattle.scenario.specs.Words.{words};
 ghost use Rattle.scenario.specs.Ends.{Ends, Stopped};
-ghost use Rattle.line.specs.Steps.{Full};
+ghost use Rattle.braking.specs.Memory.{Full};
 ghost use Rattle.std.specs.List.{after_first, before_first};
 ghost use Rattle.std.specs.Str.Lines.{strip_carriage_return};
 ghost use Rattle.std.specs.Prelude.{◌≡◌, ◌≢◌, ◌<◌, ◌==◌, ◌+◌, ◌-◌, ◌^◌, ◌∷◌, ◌++◌, ℕ, List, [], ◌⊎◌, IfErr, IfNone, IfOk, IfSome, OnErr, drop, length};

@@ -15,7 +15,7 @@ use crate::keyword::Keyword;
 use crate::parts::{after, is_empty, next_number};
 use crate::words::next_word;
 use braking::limits::SPEED_MAX;
-use line::Standing;
+use onboard::InitialTrain;
 use safety::Event;
 
 // What a line says: the entry that is written with its words, if there is one.
@@ -146,7 +146,7 @@ fn next_wish(line: &str) -> Option<(u64, &str)>
 
 // What follows `train`.
 #[tactic(auto, using(crate::proofs::Entries::later))]
-fn standing(line: &str) -> Option<Standing>
+fn standing(line: &str) -> Option<InitialTrain>
     ensures some { IfSome result (λ s. words line.now ≡ decimal s.low ∷ decimal s.front ∷ decimal s.high ∷ decimal s.end ∷ decimal s.length ∷ []) }
     ensures none { IfNone result (NoEntry Train (words line.now)) }
 {
@@ -155,7 +155,7 @@ fn standing(line: &str) -> Option<Standing>
     let (high, rest) = next_number(rest)?;
     let (end, rest) = next_number(rest)?;
     let length = last_number(rest)?;
-    Some(Standing {
+    Some(InitialTrain {
         low,
         front,
         high,

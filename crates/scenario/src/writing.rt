@@ -4,7 +4,7 @@ ghost use Rattle.scenario.specs.Written.{joined, line_text, scenario_text};
 ghost use Rattle.std.specs.Prelude.{◌≡◌, ◌++◌, OnOk, Some, string_bytes};
 
 use crate::entry::{Entry, HeadLine};
-use line::Standing;
+use onboard::InitialTrain;
 use safety::Event;
 use std::alloc::AllocError;
 use std::fmt;
@@ -40,7 +40,7 @@ impl fmt::Display for Entry {
             }
             Entry::Head(
                 HeadLine::Train(
-                    Standing {
+                    InitialTrain {
                         low,
                         front,
                         high,

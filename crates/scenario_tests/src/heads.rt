@@ -1,12 +1,12 @@
 // What the lines of a head give, and what stands where nothing is given.
 use crate::setting::{FIRST, HEAD, SECOND};
-use line::Standing;
+use onboard::InitialTrain;
 use scenario::{Head, HeadLine};
 use std::process::Abort;
 use std::test::Fail;
 
 // What a head gives: its brake, its blur, how many controllers there are, and its trains.
-fn gives(rt: &impl Abort, head: Head, numbers: (u64, u64, u64), trains: &[Standing]) {
+fn gives(rt: &impl Abort, head: Head, numbers: (u64, u64, u64), trains: &[InitialTrain]) {
     assert_eq!(rt;
         (head.brakes.brake, head.brakes.blur, head.controllers),
         numbers

@@ -1,7 +1,8 @@
 // Why an event cannot be, and why a day cannot begin with a train.
 use crate::setting::{FIRST, SECOND};
 use braking::Brakes;
-use line::{Line, Standing};
+use line::Line;
+use onboard::InitialTrain;
 use safety::Event;
 use scenario::{misplaced_by, why_not};
 use std::alloc::Global;
@@ -85,8 +86,8 @@ fn first_reason_is_told(rt: HostRuntime) -> Result<(), Fail> {
 }
 
 // With its front at 380.
-fn train(low: u64, high: u64, end: u64, length: u64) -> Standing {
-    Standing {
+fn train(low: u64, high: u64, end: u64, length: u64) -> InitialTrain {
+    InitialTrain {
         low,
         high,
         end,

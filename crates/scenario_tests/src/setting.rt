@@ -1,12 +1,12 @@
 // A day with all kinds of lines and of events, and no two numbers alike where one could be taken for the other.
-use line::Standing;
+use onboard::InitialTrain;
 use safety::Event;
 use scenario::{HeadLine, Stop, read};
 use std::alloc::Global;
 use std::process::Abort;
 use std::test::Fail;
 
-pub(crate) const FIRST: Standing = Standing {
+pub(crate) const FIRST: InitialTrain = InitialTrain {
     low: 490,
     front: 500,
     high: 510,
@@ -14,7 +14,7 @@ pub(crate) const FIRST: Standing = Standing {
     length: 100,
 };
 
-pub(crate) const SECOND: Standing = Standing {
+pub(crate) const SECOND: InitialTrain = InitialTrain {
     low: 375,
     front: 380,
     high: 385,

@@ -1,7 +1,6 @@
 // Examples worked out by hand, apart from the definitions; and the braking distance held against its rule.
-use crate::brakes::Brakes;
-use crate::limits::{check_counts, check_place, check_speed, check_train};
-use crate::refusal::Refusal;
+use braking::limits::{check_counts, check_place, check_speed, check_train};
+use braking::{Brakes, Refusal};
 use std::test::Fail;
 
 // Brake 1 from 10,000 leaves 9,999, 9,998 and so on to 1; brake 100 leaves 9,900, 9,800 and so on to 100.

@@ -1,8 +1,6 @@
 // Examples worked out by hand, apart from the definitions.
-use crate::drive::may_drive;
-use crate::unit::{Grant, Onboard};
-use crate::word::Word;
 use braking::{Brakes, Refusal};
+use onboard::{Grant, Onboard, Word, may_drive};
 use std::process::Abort;
 use std::test::Fail;
 
