@@ -14,8 +14,9 @@ use braking::Refusal;
 use braking::limits::PLACE_MAX;
 use line::{Gaps, Line, NewError, Seen, StepError};
 use onboard::InitialTrain;
+use reasons::{misplaced_by, why_not};
 use safety::Event;
-use scenario::{Head, HeadLine, Reader, Stop, explain, misplaced_by, read_head_line, why_not};
+use scenario::{Head, HeadLine, Reader, Stop, explain, read_head_line};
 use std::alloc::{AllocError, Global};
 use std::io;
 

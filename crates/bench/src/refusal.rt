@@ -3,7 +3,8 @@ ghost use Rattle.braking.specs.declared.refusal.Refusal.TheVariants.{Impossible}
 ghost use Rattle.std.specs.Prelude.{◌≡◌, Some};
 
 use braking::Refusal;
-use scenario::{Fault, HeadLine, Misplaced, WhyNot};
+use reasons::{Misplaced, WhyNot};
+use scenario::{Fault, HeadLine};
 use std::fmt;
 
 // Why something is refused, and what would be right.

@@ -12,8 +12,8 @@ use crate::chance::Chance;
 use braking::limits::SPEED_MAX;
 use line::Line;
 use onboard::{Onboard, Word};
+use reasons::{WhyNot, why_not};
 use safety::Event;
-use scenario::{WhyNot, why_not};
 
 // Most often about the highest speed that the unit lets, or a little more than the train has.
 #[tactic(auto, unfolding(crate::specs::Drivers::some_wish))]

@@ -11,8 +11,8 @@ use crate::chance::Chance;
 use crate::driver::{some_speed, some_wish};
 use crate::kinds::{Kind, Kinds};
 use line::Line;
+use reasons::why_not;
 use safety::Event;
-use scenario::why_not;
 
 // So many times something is drawn that may not be able to be, as a message that is to be taken and is no grant.
 const TRIES: u64 = 16;

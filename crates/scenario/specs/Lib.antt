@@ -6,7 +6,6 @@ pub mod Ends
 pub mod Heads
 pub mod Written
 pub mod Faults
-pub mod Reasons
 pub mod Told
 pub mod Laws
 pub mod Inside

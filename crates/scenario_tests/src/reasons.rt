@@ -4,7 +4,7 @@ use braking::Brakes;
 use line::Line;
 use onboard::InitialTrain;
 use safety::Event;
-use scenario::{misplaced_by, why_not};
+use reasons::{misplaced_by, why_not};
 use std::alloc::Global;
 use std::test::Fail;
 

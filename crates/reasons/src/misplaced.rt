@@ -1,7 +1,7 @@
 // Why a day cannot begin with a train as it is given, and what would be right.
 ghost use Rattle.onboard.specs.InitialTrain.{fits};
-ghost use Rattle.scenario.specs.Reasons.{misplaced_by};
-ghost use Rattle.scenario.specs.Told.{misplaced_text};
+ghost use Rattle.reasons.specs.Reasons.{misplaced_by};
+ghost use Rattle.reasons.specs.Told.{misplaced_text};
 ghost use Rattle.std.specs.Prelude.{◌≡◌, Some, is_none};
 
 use onboard::InitialTrain;

@@ -7,10 +7,10 @@ use Rattle.safety.specs.declared.event.Event.{Event}
 use Rattle.safety.specs.declared.event.Event.TheVariants as events
 use Rattle.safety.specs.State.{State, train_at, message_at}
 use Rattle.safety.specs.Events.{has_train, has_controller, has_message, may_be_taken}
-use Rattle.scenario.specs.declared.impossible.WhyNot.{WhyNot}
-use Rattle.scenario.specs.declared.impossible.WhyNot.TheVariants.{NoTrain, NoTrainBehind, NoController, NotSent, NoGrant, TooFast}
-use Rattle.scenario.specs.declared.misplaced.Misplaced.{Misplaced}
-use Rattle.scenario.specs.declared.misplaced.Misplaced.TheVariants.{Length, Low, Front, High, End}
+use Rattle.reasons.specs.declared.impossible.WhyNot.{WhyNot}
+use Rattle.reasons.specs.declared.impossible.WhyNot.TheVariants.{NoTrain, NoTrainBehind, NoController, NotSent, NoGrant, TooFast}
+use Rattle.reasons.specs.declared.misplaced.Misplaced.{Misplaced}
+use Rattle.reasons.specs.declared.misplaced.Misplaced.TheVariants.{Length, Low, Front, High, End}
 
 -- a reason where something does not hold, and else the next
 abbrev pub unless : {A : Type 0} → Bool → A → Option A → Option A

@@ -2,9 +2,9 @@
 ghost use Rattle.line.specs.Steps.{state};
 ghost use Rattle.message.specs.Bytes.{received};
 ghost use Rattle.onboard.specs.Train as onboard;
-ghost use Rattle.scenario.specs.Reasons.{reason_of, unless};
-ghost use Rattle.scenario.specs.Told.{why_not_text};
-ghost use Rattle.scenario.specs.declared.impossible.WhyNot.TheVariants.{NoController, NoGrant, NoTrain, NotSent};
+ghost use Rattle.reasons.specs.Reasons.{reason_of, unless};
+ghost use Rattle.reasons.specs.Told.{why_not_text};
+ghost use Rattle.reasons.specs.declared.impossible.WhyNot.TheVariants.{NoController, NoGrant, NoTrain, NotSent};
 ghost use Rattle.safety.specs.Events.{can_be, has_controller, has_message, has_train, may_be_taken};
 ghost use Rattle.safety.specs.State.{message_at, train_at};
 ghost use Rattle.std.specs.Prelude.{◌≡◌, ◌&&◌, IfNone, IfSome, None, Some, false, true};

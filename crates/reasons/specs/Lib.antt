@@ -1,0 +1,2 @@
+pub mod Reasons
+pub mod Told
