@@ -1,28 +1,22 @@
-// The bench: plays scenarios, and tells how trains move and how close they come.
+//! The bench: plays scenarios, and tells how trains move and how close they come.
 #![tactic(auto)]
 
-mod arguments;
-mod asked_days;
+mod files;
 mod pictures;
-mod play;
 mod printing;
 mod progress;
 mod random_days;
-mod refusal;
-mod text;
-mod ticks;
 
 use arguments::{Arguments, Request, read_arguments};
+use files::read_text;
 use pictures::draw;
-use play::{PlayError, play};
+use play::{PlayError, Refused, play};
 use printing::Printing;
-use progress::Progress;
+use progress::ProgressLine;
 use random_days::{play_days, write_day};
-use refusal::Refused;
 use std::io::{self, BufWriter, Write};
 use std::process::ExitCode;
 use std::{env, fmt, fs};
-use text::read_text;
 
 const USAGE: &str = "usage: bench [--quiet] [--check] [FILE]...
        bench --svg PICTURE [--quiet] [--check] [FILE]
@@ -74,15 +68,9 @@ fn play_file(rt: &HostRuntime, name: &str, arguments: &Arguments) -> io::Result<
     }
     let out = BufWriter::with_capacity(rt.alloc(), 1 << 16, io::writer(rt))?;
     let shown = !arguments.quiet && !arguments.check;
-    let mut progress = Progress::new(rt, arguments.quiet, shown)?;
+    let mut progress = ProgressLine::new(rt, name, arguments.quiet, shown)?;
     let mut printing = Printing::new(rt.alloc(), out, shown);
-    let played = play(
-        rt.alloc(),
-        text.as_str(),
-        name,
-        &mut printing,
-        &mut progress,
-    );
+    let played = play(rt.alloc(), text.as_str(), &mut printing, &mut progress);
     progress.end()?;
     let mut out = printing.out;
     match played {
@@ -111,7 +99,7 @@ fn draw_text(
     picture: &str,
     arguments: &Arguments,
 ) -> io::Result<bool> {
-    let mut progress = Progress::new(rt, arguments.quiet, false)?;
+    let mut progress = ProgressLine::new(rt, name, arguments.quiet, false)?;
     let title = title_of(name);
     let drawn = draw(rt.alloc(), text.as_str(), title, &mut progress);
     progress.end()?;

@@ -1,12 +1,11 @@
-// A day as a picture. It is played twice: to learn what the picture has to hold, and to be drawn.
-ghost use Rattle.bench.specs.Played.{Played};
+//! A day as a picture. It is played twice: to learn what the picture has to hold, and to be drawn.
+ghost use Rattle.play.specs.Played.{Played};
 ghost use Rattle.std.specs.Prelude.{IfOk};
 
-use crate::play::{Piece, PlayError, Watcher, play};
-use crate::progress::Progress;
-use crate::refusal::Refused;
+use crate::progress::ProgressLine;
 use line::{Gaps, Line};
 use picture::{Drawing, Extent, Heading, write_picture};
+use play::{Piece, PlayError, Refused, Watcher, play};
 use std::alloc::{AllocError, Global};
 use std::fmt::Write;
 
@@ -22,7 +21,7 @@ pub fn draw<'a>(
     alloc: Global,
     text: &'a str,
     title: &str,
-    progress: &mut Progress<'_>,
+    progress: &mut ProgressLine<'_>,
 ) -> Result<Drawn<'a>, PlayError<'a>>
     ensures { IfOk result (λ drawn. IfOk drawn.outcome (λ gaps. Played text.now gaps)) }
 {
@@ -33,7 +32,7 @@ pub fn draw<'a>(
             smallest: None,
         },
     };
-    let outcome = match play(alloc, text, title, &mut survey, progress) {
+    let outcome = match play(alloc, text, &mut survey, progress) {
         Ok(gaps) => Ok(gaps),
         Err(PlayError::Refused(refused)) => Err(refused),
         Err(error) => return Err(error),
@@ -44,7 +43,7 @@ pub fn draw<'a>(
         extent,
         drawing: Drawing::new(alloc, extent, &[])?,
     };
-    match play(alloc, text, title, &mut sketch, progress) {
+    match play(alloc, text, &mut sketch, progress) {
         Ok(_) | Err(PlayError::Refused(_)) => {}
         Err(error) => return Err(error),
     }

@@ -1,9 +1,8 @@
-// The lines of ticks, printed while a scenario is played.
+//! The lines of ticks, printed while a scenario is played.
 ghost use Rattle.std.specs.Prelude.{◌≡◌, []};
 
-use crate::play::{Piece, PlayError, Watcher};
-use crate::ticks::write_ticks;
 use line::Line;
+use play::{Piece, PlayError, Watcher, write_ticks};
 use std::alloc::Global;
 use std::io::Write;
 

@@ -1,14 +1,14 @@
-// Random days, written as scenarios and played as files are.
+//! Random days, written as scenarios and played as files are.
 ghost use Rattle.random.specs.Days.{DrawnBy, IsDay};
 ghost use Rattle.random.specs.declared.day.Day.{Day};
 ghost use Rattle.scenario.specs.Written.{scenario_text};
 ghost use Rattle.std.specs.Prelude.{◌≡◌, ◌++◌, IfOk, string_bytes};
 
-use crate::asked_days::RandomDays;
-use crate::play::{PlayError, play};
 use crate::printing::Printing;
-use crate::progress::Progress;
+use crate::progress::ProgressLine;
+use arguments::RandomDays;
 use line::Gaps;
+use play::{PlayError, Progress, play};
 use random::{Day, Extent, random_day};
 use scenario::{Head, write};
 use std::alloc::{AllocError, Global};
@@ -33,9 +33,18 @@ fn written_day(alloc: Global, seed: u64, extent: Extent) -> Result<Written, Allo
     Ok(Written { day, text })
 }
 
+// How large each of the days is.
+fn extent_of(asked: RandomDays) -> Extent {
+    Extent {
+        trains: asked.trains,
+        controllers: asked.controllers,
+        events: asked.events,
+    }
+}
+
 // Prints the scenario of the first day.
 pub fn write_day(rt: &HostRuntime, asked: RandomDays) -> io::Result<ExitCode> {
-    let Ok(written) = written_day(rt.alloc(), asked.seed, asked.extent) else {
+    let Ok(written) = written_day(rt.alloc(), asked.seed, extent_of(asked)) else {
         return no_memory(rt, asked.seed);
     };
     let mut out = BufWriter::with_capacity(rt.alloc(), 1 << 16, io::writer(rt))?;
@@ -47,16 +56,16 @@ pub fn write_day(rt: &HostRuntime, asked: RandomDays) -> io::Result<ExitCode> {
 // Plays the days, and tells of each in a line and then of all.
 pub fn play_days(rt: &HostRuntime, asked: RandomDays) -> io::Result<ExitCode> {
     let mut out = BufWriter::with_capacity(rt.alloc(), 1 << 16, io::writer(rt))?;
-    let mut progress = Progress::new(rt, asked.quiet, !asked.quiet)?;
+    let mut progress = ProgressLine::new(rt, "random days", asked.quiet, !asked.quiet)?;
     let mut events = 0u128;
     let mut all = Gaps {
         count: 0,
         smallest: None,
     };
     for day in 0..asked.days {
-        progress.tell("random days", day as usize, asked.days as usize)?;
+        progress.tell(day as usize, asked.days as usize)?;
         let seed = asked.seed.wrapping_add(day);
-        let Ok(written) = written_day(rt.alloc(), seed, asked.extent) else {
+        let Ok(written) = written_day(rt.alloc(), seed, extent_of(asked)) else {
             progress.end()?;
             out.flush()?;
             return no_memory(rt, seed);
@@ -85,9 +94,9 @@ pub fn play_days(rt: &HostRuntime, asked: RandomDays) -> io::Result<ExitCode> {
 // The gaps of a day. Nothing is told of its ticks, nor of its progress.
 fn play_day<'a>(rt: &HostRuntime, text: &'a String) -> io::Result<Result<Gaps, PlayError<'a>>> {
     let alloc = rt.alloc();
-    let mut silent = Progress::new(rt, true, false)?;
+    let mut silent = ProgressLine::new(rt, "", true, false)?;
     let mut unseen = Printing::new(alloc, io::sink(), false);
-    Ok(play(alloc, text.as_str(), "", &mut unseen, &mut silent))
+    Ok(play(alloc, text.as_str(), &mut unseen, &mut silent))
 }
 
 fn no_memory(rt: &HostRuntime, seed: u64) -> io::Result<ExitCode> {

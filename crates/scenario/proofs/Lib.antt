@@ -1,8 +1,5 @@
-pub mod Cuts
-pub mod Decimals
+pub mod Wishes
 pub mod Entries
-pub mod TextLines
-pub mod GoingOn
 pub mod Readings
 pub mod Places
 pub mod OneReading

@@ -11,14 +11,16 @@ use Rattle.scenario.specs.declared.entry.Entry.{Entry}
 use Rattle.scenario.specs.declared.entry.Entry.TheVariants as entries
 use Rattle.scenario.specs.declared.keyword.Keyword.{Keyword}
 use Rattle.scenario.specs.declared.keyword.Keyword.TheVariants as keywords
-use Rattle.scenario.specs.Lines.{IsNumber, Fits, EventFits, HeadFits, entry_words, event_words, head_words}
-use Rattle.scenario.specs.Texts.{Said, HeadRead, HeadEnds, EventsRead}
+use Rattle.scenario.specs.Lines.{Fits, EventFits, HeadFits, entry_words, event_words, head_words}
+use Rattle.text.specs.Numbers.{IsNumber}
+use Rattle.scenario.specs.Texts.{HeadRead, HeadEnds, EventsRead}
+use Rattle.text.specs.Lines.{Said}
 use Rattle.scenario.specs.Ends.{Ends}
-use Rattle.scenario.specs.declared.reader.Stop.{Stop}
-use Rattle.scenario.specs.declared.reader.Stop.TheVariants.{End, Unreadable}
+use Rattle.scenario.specs.declared.lines.Stop.{Stop}
+use Rattle.scenario.specs.declared.lines.Stop.TheVariants.{End, Unreadable}
 use Rattle.scenario.specs.Keywords.{keyword_of}
 use Rattle.scenario.specs.Laws.{OneEntry, OneReading}
-use Rattle.scenario.proofs.Decimals.{own}
+use Rattle.text.proofs.Decimals.{own}
 
 -- the entry that words write, if they write one: what tells two entries apart
 value : List ℕ → ℕ

@@ -2,7 +2,8 @@
 use Rattle.std.proofs.Common.{ℕ, List, [], ◌∷◌, ◌≡◌, ◌++◌, ap, append_assoc, sym, subst, ◌∙◌}
 use Rattle.safety.specs.declared.event.Event.{Event}
 use Rattle.scenario.specs.declared.entry.HeadLine.{HeadLine}
-use Rattle.scenario.specs.Texts.{EventsRead, HeadRead, Said}
+use Rattle.scenario.specs.Texts.{EventsRead, HeadRead}
+use Rattle.text.specs.Lines.{Said}
 
 pub one_more : (text middle rest : List Said) (lines : List ℕ) (events : List Event) (line : ℕ) (event : Event) →
     EventsRead text lines events middle → EventsRead middle (line ∷ []) (event ∷ []) rest → EventsRead text (lines ++ line ∷ []) (events ++ event ∷ []) rest

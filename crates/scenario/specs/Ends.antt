@@ -2,10 +2,11 @@
 use Rattle.std.specs.Prelude.{◌≡◌, ◌≢◌, ℕ, ◌<◌, List, [], ◌∷◌, length, Some, None, Option}
 use Rattle.safety.specs.declared.event.Event.{Event}
 use Rattle.scenario.specs.declared.entry.HeadLine.{HeadLine}
-use Rattle.scenario.specs.declared.reader.Stop.{Stop}
-use Rattle.scenario.specs.declared.reader.Stop.TheVariants.{End, Unreadable}
+use Rattle.scenario.specs.declared.lines.Stop.{Stop}
+use Rattle.scenario.specs.declared.lines.Stop.TheVariants.{End, Unreadable}
 use Rattle.scenario.specs.Lines.{event_words, EventFits}
-use Rattle.scenario.specs.Texts.{Said, said, HeadRead, EventsRead}
+use Rattle.scenario.specs.Texts.{HeadRead, EventsRead}
+use Rattle.text.specs.Lines.{Said, said}
 
 -- why there is no next event: nothing more is said; or the next line, of this number, is how no event is written
 abbrev pub Ends : Stop → List Said → Type 0

@@ -9,7 +9,8 @@ use Rattle.scenario.specs.declared.fault.Between.{Between}
 use Rattle.scenario.specs.declared.fault.Between.TheVariants as between
 use Rattle.scenario.specs.declared.fault.Part.{Part}
 use Rattle.scenario.specs.declared.fault.Part.TheVariants as parts
-use Rattle.scenario.specs.Lines.{entry_words, Fits, IsNumber}
+use Rattle.scenario.specs.Lines.{entry_words, Fits}
+use Rattle.text.specs.Numbers.{IsNumber}
 use Rattle.scenario.specs.Keywords.{keyword_of}
 
 -- some entry is written with the words

@@ -1,22 +1,13 @@
 -- What functions inside this crate ensure to one another. No public contract names it, so nobody has to believe it: these
 -- are definitions.
-use Rattle.std.specs.Prelude.{◌≡◌, ◌≢◌, ◌<◌, ◌≤◌, ◌^◌, ℕ, ◌∷◌, ◌++◌, [], decimal, List, length, take, slice_index, codes}
-use Rattle.std.specs.Str.Parse.{AllDigits, digits_value}
-use Rattle.std.specs.Char.{digit_value}
+use Rattle.std.specs.Prelude.{◌≢◌, ◌≤◌, ℕ, ◌∷◌, [], decimal, List, codes}
 use Rattle.braking.specs.Limits.{speed_max}
 use Rattle.safety.specs.declared.event.Event.{Event}
 use Rattle.safety.specs.declared.event.Event.TheVariants as events
-use Rattle.scenario.specs.Lines.{IsNumber}
+use Rattle.text.specs.Numbers.{IsNumber}
+use Rattle.text.specs.Plain.{IsShort, line_then}
 use Rattle.scenario.specs.declared.keyword.Keyword.{Keyword}
 use Rattle.scenario.specs.declared.keyword.Keyword.TheVariants as keywords
-
--- no plus stands first, and no zero before other digits
-abbrev pub IsPlain : List ℕ → Type 0
-IsPlain word = (slice_index word 0 ≢ 43) × (slice_index word 0 ≡ 48 → length word ≡ 1)
-
--- the first bytes are digits, and write the number
-abbrev pub AreDigits : List ℕ → (count number : ℕ) → Type 0
-AreDigits text count number = AllDigits 10 (take count text) × (number ≡ digits_value 10 (take count text))
 
 -- no entry begins with the keyword and goes on with the words
 abbrev pub NoEntry : Keyword → List (List ℕ) → Type 0
@@ -35,10 +26,7 @@ NoEntry keywords.Grant rest = (m n : ℕ) → IsNumber m → IsNumber n → rest
 NoEntry keywords.Take rest = (n : ℕ) → IsNumber n → rest ≢ codes "message" ∷ decimal n ∷ []
 NoEntry keywords.Restart rest = (n : ℕ) → IsNumber n → rest ≢ decimal n ∷ []
 
--- numbers and events that are read in one pass
-abbrev pub IsShort : ℕ → Type 0
-IsShort n = n < 10 ^ 13
-
+-- events that are read in one pass
 abbrev pub EventShort : Event → Type 0
 EventShort (events.Tick train wish speed) = IsShort train × (wish ≤ speed_max) × IsShort speed
 EventShort (events.Mark train) = IsShort train
@@ -49,20 +37,7 @@ EventShort (events.Grant controller train) = IsShort controller × IsShort train
 EventShort (events.Take message) = IsShort message
 EventShort (events.Restart controller) = IsShort controller
 
--- it does not begin with a digit
-abbrev pub NoDigit : List ℕ → Type 0
-NoDigit text = 10 ≤ digit_value (slice_index text 0)
-
--- words with a blank (32) between them, a line feed (10), and what comes after
-abbrev pub line_then : (words : List (List ℕ)) → (rest : List ℕ) → List ℕ
-line_then [] rest = 10 ∷ rest
-line_then (word ∷ []) rest = word ++ 10 ∷ rest
-line_then (word ∷ next ∷ words) rest = word ++ 32 ∷ line_then (next ∷ words) rest
-
--- no line of a number follows; none of a number, a word and a number; none of what follows `tick`
-abbrev pub NoNumber : List ℕ → Type 0
-NoNumber text = (n : ℕ) (rest : List ℕ) → IsShort n → text ≢ line_then (decimal n ∷ []) rest
-
+-- no line of a number, a word and a number follows; none of what follows `tick`
 abbrev pub NoTwo : (between text : List ℕ) → Type 0
 NoTwo between text = (m n : ℕ) (rest : List ℕ) → IsShort m → IsShort n → text ≢ line_then (decimal m ∷ between ∷ decimal n ∷ []) rest
 

@@ -4,12 +4,14 @@ use Rattle.std.specs.List.{AllByRecursion}
 use Rattle.safety.specs.declared.event.Event.{Event}
 use Rattle.scenario.specs.declared.entry.HeadLine.{HeadLine}
 use Rattle.scenario.specs.declared.entry.Entry.{Entry}
-use Rattle.scenario.specs.declared.reader.Stop.{Stop}
-use Rattle.scenario.specs.declared.reader.Stop.TheVariants.{End}
+use Rattle.scenario.specs.declared.lines.Stop.{Stop}
+use Rattle.scenario.specs.declared.lines.Stop.TheVariants.{End}
 use Rattle.scenario.specs.Lines.{Fits, EventFits, HeadFits, entry_words}
-use Rattle.scenario.specs.Texts.{is_double, line_words}
+use Rattle.scenario.specs.Texts.{is_double}
+use Rattle.text.specs.Lines.{line_words}
 use Rattle.scenario.specs.Ends.{IsRead}
-use Rattle.scenario.specs.Written.{joined, scenario_text}
+use Rattle.scenario.specs.Written.{scenario_text}
+use Rattle.text.specs.Written.{joined}
 
 -- no two entries are written with the same words
 abbrev pub OneEntry : Type 0

@@ -1,5 +1,5 @@
 -- How the lines of a scenario are written, as words. Assumes nothing: these are definitions.
-use Rattle.std.specs.Prelude.{ℕ, ◌<◌, ◌≤◌, ◌^◌, List, [], ◌∷◌, codes, decimal}
+use Rattle.std.specs.Prelude.{ℕ, ◌≤◌, List, [], ◌∷◌, codes, decimal}
 use Rattle.braking.specs.Limits.{speed_max}
 use Rattle.safety.specs.declared.event.Event.{Event}
 use Rattle.safety.specs.declared.event.Event.TheVariants as events
@@ -7,6 +7,7 @@ use Rattle.scenario.specs.declared.entry.HeadLine.{HeadLine}
 use Rattle.scenario.specs.declared.entry.HeadLine.TheVariants as heads
 use Rattle.scenario.specs.declared.entry.Entry.{Entry}
 use Rattle.scenario.specs.declared.entry.Entry.TheVariants as entries
+use Rattle.text.specs.Numbers.{IsNumber}
 
 -- the words of an event; numbers are written in decimal digits, with no sign and no leading zero
 abbrev pub event_words : Event → List (List ℕ)
@@ -34,9 +35,6 @@ entry_words (entries.Head line) = head_words line
 entry_words (entries.Event event) = event_words event
 
 -- what a scenario can have: numbers below 2 ^ 64, and a wish that a driver can have
-abbrev pub IsNumber : ℕ → Type 0
-IsNumber n = n < 2 ^ 64
-
 abbrev pub EventFits : Event → Type 0
 EventFits (events.Tick train wish speed) = IsNumber train × (wish ≤ speed_max) × IsNumber speed
 EventFits (events.Mark train) = IsNumber train

@@ -1,19 +1,10 @@
 -- How a scenario is written. Assumes nothing: these are definitions.
-use Rattle.std.specs.Prelude.{ℕ, List, [], ◌∷◌, ◌++◌}
+use Rattle.std.specs.Prelude.{ℕ, List, ◌++◌}
 use Rattle.std.specs.List.{flat_map}
 use Rattle.safety.specs.declared.event.Event.{Event}
 use Rattle.scenario.specs.declared.entry.HeadLine.{HeadLine}
 use Rattle.scenario.specs.Lines.{event_words, head_words}
-
--- words with a blank (32) between them
-abbrev pub joined : List (List ℕ) → List ℕ
-joined [] = []
-joined (word ∷ []) = word
-joined (word ∷ words) = word ++ 32 ∷ joined words
-
--- each line ends in a line feed (10)
-abbrev pub line_text : List (List ℕ) → List ℕ
-line_text words = joined words ++ 10 ∷ []
+use Rattle.text.specs.Written.{line_text}
 
 abbrev pub head_text : List HeadLine → List ℕ
 head_text = flat_map (λ line. line_text (head_words line))

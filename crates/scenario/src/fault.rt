@@ -4,17 +4,16 @@ ghost use Rattle.braking.specs.Limits.{speed_max};
 ghost use Rattle.scenario.specs.declared.fault.Part.{Part};
 ghost use Rattle.scenario.specs.declared.fault.Part.TheVariants.{Wish};
 ghost use Rattle.scenario.specs.Told.{fault_text, part_text};
-ghost use Rattle.scenario.specs.Words.{words};
+ghost use Rattle.text.specs.Words.{words};
 ghost use Rattle.std.specs.Char.{is_ascii_graphic};
 ghost use Rattle.std.specs.List.{list_all};
 ghost use Rattle.std.specs.Prelude.{◌≡◌, ◌≢◌, ◌≤◌, ◌+◌, ◌∷◌, decimal, ℕ, suc, List, IfNone, IfSome, Some, drop, false, true};
 
 use crate::keyword::Keyword;
-use crate::parts::number;
 use crate::reading::read_line;
-use crate::words::next_word;
 use braking::limits::SPEED_MAX;
 use std::fmt;
+use text::{next_word, number};
 
 // The words that stand between numbers.
 #[derive(Clone, Copy, PartialEq, Eq, Debug)]
@@ -168,7 +167,7 @@ impl Part {
 }
 
 // Whether the word writes a wish that a driver can have.
-#[tactic(auto, using(crate::proofs::Decimals::past_wish))]
+#[tactic(auto, using(crate::proofs::Wishes::past_wish))]
 fn is_wish(word: &str) -> bool
     ensures yes { result ≡ true → FitsPart Wish word.now }
     ensures no { result ≡ false → (n : ℕ) → n ≤ speed_max → word.now ≢ decimal n }

@@ -1,16 +1,14 @@
 // Events that stand as `write` writes them, with one blank between words: most lines of most files. They are read in one pass.
 ghost use Rattle.safety.specs.declared.event.Event.{Event};
-ghost use Rattle.scenario.specs.Inside.{AreDigits, EventShort, IsShort, NoDigit, NoNumber, NoTick, NoTwo, line_then};
-ghost use Rattle.scenario.specs.Lines.{EventFits, IsNumber, event_words};
-ghost use Rattle.scenario.specs.Written.{line_text};
-ghost use Rattle.std.specs.Char.{digit_value};
-ghost use Rattle.std.specs.Prelude.{◌≡◌, ◌≢◌, ◌∷◌, ◌++◌, ◌≤◌, ℕ, List, [], IfNone, IfSome, codes, decimal, drop, length};
+ghost use Rattle.scenario.specs.Inside.{EventShort, NoTick, NoTwo};
+ghost use Rattle.scenario.specs.Lines.{EventFits, event_words};
+ghost use Rattle.text.specs.Plain.{IsShort, NoNumber, line_then};
+ghost use Rattle.text.specs.Written.{line_text};
+ghost use Rattle.std.specs.Prelude.{◌≡◌, ◌≢◌, ◌∷◌, ◌++◌, ℕ, List, [], IfNone, IfSome, codes, decimal};
 
 use braking::limits::SPEED_MAX;
 use safety::Event;
-
-// Longer numbers are not read here.
-const LONG: u64 = 1_000_000_000_000;
+use text::plain::{after, last_number, number};
 
 // The event that a text begins with, and what comes after its line.
 #[tactic(auto, using(crate::proofs::OnePass::no_event, crate::proofs::OnePass::no_tick, crate::proofs::OnePass::no_mark, crate::proofs::OnePass::no_report, crate::proofs::OnePass::no_hear, crate::proofs::OnePass::no_tell, crate::proofs::OnePass::no_grant, crate::proofs::OnePass::no_take, crate::proofs::OnePass::no_restart))]
@@ -49,7 +47,7 @@ fn tick(text: &[u8]) -> Option<(Event, &[u8])>
 }
 
 // What follows `mark`, and so on.
-#[tactic(auto, using(crate::proofs::Plain::one_more_word))]
+#[tactic(auto, using(text::proofs::OnePass::one_more_word))]
 fn mark(text: &[u8]) -> Option<(Event, &[u8])>
     ensures written { IfSome result (λ found. codes "mark" ++ 32 ∷ text.now ≡ line_text (event_words found.0) ++ found.1.now) }
     ensures fits { IfSome result (λ found. EventFits found.0) }
@@ -59,7 +57,7 @@ fn mark(text: &[u8]) -> Option<(Event, &[u8])>
     Some((Event::Mark { train }, rest))
 }
 
-#[tactic(auto, using(crate::proofs::Plain::one_more_word))]
+#[tactic(auto, using(text::proofs::OnePass::one_more_word))]
 fn report(text: &[u8]) -> Option<(Event, &[u8])>
     ensures written { IfSome result (λ found. codes "report" ++ 32 ∷ text.now ≡ line_text (event_words found.0) ++ found.1.now) }
     ensures fits { IfSome result (λ found. EventFits found.0) }
@@ -69,7 +67,7 @@ fn report(text: &[u8]) -> Option<(Event, &[u8])>
     Some((Event::Report { train }, rest))
 }
 
-#[tactic(auto, using(crate::proofs::Plain::one_more_word))]
+#[tactic(auto, using(text::proofs::OnePass::one_more_word))]
 fn hear(text: &[u8]) -> Option<(Event, &[u8])>
     ensures written { IfSome result (λ found. codes "hear" ++ 32 ∷ text.now ≡ line_text (event_words found.0) ++ found.1.now) }
     ensures fits { IfSome result (λ found. EventFits found.0) }
@@ -85,7 +83,7 @@ fn hear(text: &[u8]) -> Option<(Event, &[u8])>
     ))
 }
 
-#[tactic(auto, using(crate::proofs::Plain::one_more_word))]
+#[tactic(auto, using(text::proofs::OnePass::one_more_word))]
 fn tell(text: &[u8]) -> Option<(Event, &[u8])>
     ensures written { IfSome result (λ found. codes "tell" ++ 32 ∷ text.now ≡ line_text (event_words found.0) ++ found.1.now) }
     ensures fits { IfSome result (λ found. EventFits found.0) }
@@ -95,7 +93,7 @@ fn tell(text: &[u8]) -> Option<(Event, &[u8])>
     Some((Event::Tell { controller, train }, rest))
 }
 
-#[tactic(auto, using(crate::proofs::Plain::one_more_word))]
+#[tactic(auto, using(text::proofs::OnePass::one_more_word))]
 fn grant(text: &[u8]) -> Option<(Event, &[u8])>
     ensures written { IfSome result (λ found. codes "grant" ++ 32 ∷ text.now ≡ line_text (event_words found.0) ++ found.1.now) }
     ensures fits { IfSome result (λ found. EventFits found.0) }
@@ -105,7 +103,7 @@ fn grant(text: &[u8]) -> Option<(Event, &[u8])>
     Some((Event::Grant { controller, train }, rest))
 }
 
-#[tactic(auto, using(crate::proofs::Plain::two_more_words))]
+#[tactic(auto, using(text::proofs::OnePass::two_more_words))]
 fn take(text: &[u8]) -> Option<(Event, &[u8])>
     ensures written { IfSome result (λ found. codes "take" ++ 32 ∷ text.now ≡ line_text (event_words found.0) ++ found.1.now) }
     ensures fits { IfSome result (λ found. EventFits found.0) }
@@ -115,7 +113,7 @@ fn take(text: &[u8]) -> Option<(Event, &[u8])>
     Some((Event::Take { message }, rest))
 }
 
-#[tactic(auto, using(crate::proofs::Plain::one_more_word))]
+#[tactic(auto, using(text::proofs::OnePass::one_more_word))]
 fn restart(text: &[u8]) -> Option<(Event, &[u8])>
     ensures written { IfSome result (λ found. codes "restart" ++ 32 ∷ text.now ≡ line_text (event_words found.0) ++ found.1.now) }
     ensures fits { IfSome result (λ found. EventFits found.0) }
@@ -126,7 +124,7 @@ fn restart(text: &[u8]) -> Option<(Event, &[u8])>
 }
 
 // Two numbers with a word between them, which end a line.
-#[tactic(auto, using(crate::proofs::Plain::two_more_words))]
+#[tactic(auto, using(text::proofs::OnePass::two_more_words))]
 fn two_numbers<'a>(text: &'a [u8], between: &[u8]) -> Option<(u64, u64, &'a [u8])>
     ensures written { IfSome result (λ found. text.now ≡ line_text (decimal found.0 ∷ between.now ∷ decimal found.1 ∷ []) ++ found.2.now) }
     ensures none { IfNone result (NoTwo between.now text.now) }
@@ -134,86 +132,4 @@ fn two_numbers<'a>(text: &'a [u8], between: &[u8]) -> Option<(u64, u64, &'a [u8]
     let (first, rest) = number(text)?;
     let (second, rest) = last_number(after(rest, between)?)?;
     Some((first, second, rest))
-}
-
-// What comes after a word and a blank.
-#[tactic(auto, using(crate::proofs::OnePass::same_rest))]
-fn after<'a>(text: &'a [u8], word: &[u8]) -> Option<&'a [u8]>
-    ensures written { IfSome result (λ rest. text.now ≡ word.now ++ 32 ∷ rest.now) }
-    ensures only { IfSome result (λ rest. (more : List ℕ) → text.now ≡ word.now ++ 32 ∷ more → rest.now ≡ more) }
-    ensures none { IfNone result ((more : List ℕ) → text.now ≢ word.now ++ 32 ∷ more) }
-{
-    match without(text, word)? {
-        [b' ', rest @ ..] => Some(rest),
-        _ => None,
-    }
-}
-
-fn without<'a>(text: &'a [u8], word: &[u8]) -> Option<&'a [u8]>
-    ensures written { IfSome result (λ rest. text.now ≡ word.now ++ rest.now) }
-    ensures none { IfNone result ((more : List ℕ) → text.now ≢ word.now ++ more) }
-{
-    text.strip_prefix(word)
-}
-
-// A number, and what comes after the blank after it.
-fn number(text: &[u8]) -> Option<(u64, &[u8])>
-    ensures written { IfSome result (λ found. text.now ≡ decimal found.0 ++ 32 ∷ found.1.now) }
-    ensures only { IfSome result (λ found. (n : ℕ) (rest : List ℕ) → IsShort n → text.now ≡ decimal n ++ 32 ∷ rest → (found.0 ≡ n) × (found.1.now ≡ rest)) }
-    ensures none { IfNone result ((n : ℕ) (rest : List ℕ) → IsShort n → text.now ≢ decimal n ++ 32 ∷ rest) }
-{
-    match digits(text)? {
-        (number, [b' ', rest @ ..]) => Some((number, rest)),
-        _ => None,
-    }
-}
-
-// A number that ends a line, and what comes after the line.
-#[tactic(auto, using(crate::proofs::Plain::last_word))]
-fn last_number(text: &[u8]) -> Option<(u64, &[u8])>
-    ensures written { IfSome result (λ found. text.now ≡ line_text (decimal found.0 ∷ []) ++ found.1.now) }
-    ensures none { IfNone result (NoNumber text.now) }
-{
-    match digits(text)? {
-        (number, [b'\n', rest @ ..]) => Some((number, rest)),
-        _ => None,
-    }
-}
-
-// The number that digits at the beginning write, and what comes after them.
-#[tactic(auto, using(crate::proofs::OnePass::no_digit_at, crate::proofs::OnePass::too_long, crate::proofs::OnePass::ends_early))]
-fn digits(text: &[u8]) -> Option<(u64, &[u8])>
-    ensures written { IfSome result (λ found. text.now ≡ decimal found.0 ++ found.1.now) }
-    ensures ends { IfSome result (λ found. NoDigit found.1.now) }
-    ensures none { IfNone result ((n end : ℕ) (rest : List ℕ) → IsShort n → 10 ≤ digit_value end → text.now ≢ decimal n ++ end ∷ rest) }
-{
-    let mut number = 0u64;
-    for (count, byte) in text.iter().enumerate() {
-        if !byte.is_ascii_digit() {
-            return first_digits(text, count, number);
-        }
-        if number >= LONG {
-            return None;
-        }
-        number = number * 10 + u64::from(*byte - b'0');
-    }
-    None
-}
-
-// There has to be a digit, and no zero before others.
-#[tactic(auto, using(crate::proofs::Plain::digits_written, crate::proofs::OnePass::digits_end, crate::proofs::OnePass::none_at_all, crate::proofs::OnePass::zero_before))]
-fn first_digits(text: &[u8], count: usize, number: u64) -> Option<(u64, &[u8])>
-    requires few { count ≤ length text.now }
-    requires digits { AreDigits text.now count number }
-    requires ends { NoDigit (drop count text.now) }
-    ensures written { IfSome result (λ found. text.now ≡ decimal found.0 ++ found.1.now) }
-    ensures ends { IfSome result (λ found. NoDigit found.1.now) }
-    ensures none { IfNone result ((n : ℕ) (rest : List ℕ) → IsNumber n → NoDigit rest → text.now ≢ decimal n ++ rest) }
-{
-    match count {
-        0 => None,
-        1 => Some((number, &text[count..])),
-        _ if text[0] == b'0' => None,
-        _ => Some((number, &text[count..])),
-    }
 }

@@ -2,21 +2,21 @@
 ghost use Rattle.braking.specs.Limits.{speed_max};
 ghost use Rattle.scenario.specs.Inside.{NoEntry};
 ghost use Rattle.scenario.specs.Keywords.{spelling};
-ghost use Rattle.scenario.specs.Lines.{EventFits, Fits, IsNumber, HeadFits, entry_words, event_words, head_words};
+ghost use Rattle.scenario.specs.Lines.{EventFits, Fits, HeadFits, entry_words, event_words, head_words};
+ghost use Rattle.text.specs.Numbers.{IsNumber};
 ghost use Rattle.safety.specs.declared.event.Event.{Event};
 ghost use Rattle.scenario.specs.declared.entry.Entry.{Entry};
 ghost use Rattle.scenario.specs.declared.entry.HeadLine.{HeadLine};
 ghost use Rattle.scenario.specs.declared.keyword.Keyword.TheVariants.{Tick, Train};
-ghost use Rattle.scenario.specs.Words.{words};
+ghost use Rattle.text.specs.Words.{words};
 ghost use Rattle.std.specs.Prelude.{◌≡◌, ◌≢◌, ◌∷◌, ℕ, ◌<◌, ◌≤◌, List, [], IfNone, IfSome, codes, decimal};
 
 use crate::entry::{Entry, HeadLine};
 use crate::keyword::Keyword;
-use crate::parts::{after, is_empty, next_number};
-use crate::words::next_word;
 use braking::limits::SPEED_MAX;
 use onboard::InitialTrain;
 use safety::Event;
+use text::{after, is_empty, next_number, next_word};
 
 // What a line says: the entry that is written with its words, if there is one.
 #[tactic(auto, using(crate::proofs::Entries::none_after, crate::proofs::Entries::no_keyword))]
@@ -130,7 +130,7 @@ fn tick(line: &str) -> Option<Event>
 }
 
 // The wish that a line begins with, and what comes after it.
-#[tactic(auto, using(crate::proofs::Decimals::past_limit, crate::proofs::Entries::other_first))]
+#[tactic(auto, using(text::proofs::Decimals::past_limit, crate::proofs::Entries::other_first))]
 fn next_wish(line: &str) -> Option<(u64, &str)>
     ensures some { IfSome result (λ found. words line.now ≡ decimal found.0 ∷ words found.1.now) }
     ensures fits { IfSome result (λ found. found.0 ≤ speed_max) }

@@ -3,10 +3,10 @@ ghost use Rattle.scenario.specs.Ends.{IsRead};
 ghost use Rattle.std.specs.Prelude.{IfOk};
 
 use crate::entry::HeadLine;
-use crate::left::Reader;
-use crate::reader::Stop;
+use crate::lines::{Stop, read_events, read_head};
 use safety::Event;
 use std::alloc::{AllocError, Global};
+use text::Reader;
 
 // The lines of its head, its events with the numbers of their lines, and why there are no more.
 #[derive(Drop)]
@@ -21,10 +21,10 @@ pub fn read(alloc: Global, text: &str) -> Result<Scenario, AllocError>
     ensures { IfOk result (λ s. IsRead text.now s.head.items s.lines.items s.events.items s.stop) }
 {
     let mut reader = Reader::new(text);
-    let head = reader.head(alloc)?;
+    let head = read_head(&mut reader, alloc)?;
     let mut events = Vec::new(alloc);
     let mut lines = Vec::new(alloc);
-    let Some(stop) = reader.events(usize::MAX, &mut events, &mut lines)? else {
+    let Some(stop) = read_events(&mut reader, usize::MAX, &mut events, &mut lines)? else {
         unreachable!()
     };
     Ok(Scenario {

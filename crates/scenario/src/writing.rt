@@ -1,6 +1,7 @@
 // Writing a scenario.
 ghost use Rattle.scenario.specs.Lines.{entry_words};
-ghost use Rattle.scenario.specs.Written.{joined, line_text, scenario_text};
+ghost use Rattle.scenario.specs.Written.{scenario_text};
+ghost use Rattle.text.specs.Written.{joined, line_text};
 ghost use Rattle.std.specs.Prelude.{◌≡◌, ◌++◌, OnOk, Some, string_bytes};
 
 use crate::entry::{Entry, HeadLine};

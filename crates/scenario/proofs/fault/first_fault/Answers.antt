@@ -1,5 +1,5 @@
 use Rattle.std.proofs.Common.{rules, sym, ◌+◌, arith}
-use Rattle.scenario.specs.Words.{words}
+use Rattle.text.specs.Words.{words}
 use Rattle.scenario.proofs.FaultPlaces.{one_fits, one_fails, none_left, first_of_line}
 use Rattle.scenario.proofs.fault.first_fault.Goals as goal
 

@@ -3,7 +3,7 @@ use denote.Shadow.{shadow}
 use denote.Text.{Utf8}
 use Rattle.scenario.specs.declared.fault.Part.{Part}
 use Rattle.scenario.specs.Faults.{FaultAt}
-use Rattle.scenario.specs.Words.{words}
+use Rattle.text.specs.Words.{words}
 use Rattle.scenario.proofs.fault.first_fault.Given as goal
 
 -- what is left of the line are its words from the next place on, and the first fault of what is left is that of the line

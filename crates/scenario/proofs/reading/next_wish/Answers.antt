@@ -1,6 +1,6 @@
 use Rattle.std.proofs.Common.{arith, rules}
 use Rattle.braking.specs.Limits.{speed_max}
-use Rattle.scenario.proofs.Decimals.{past_limit}
+use Rattle.text.proofs.Decimals.{past_limit}
 use Rattle.scenario.proofs.Entries.{other_first}
 use Rattle.scenario.proofs.reading.next_wish.Goals as goal
 

@@ -1,0 +1,2 @@
+pub mod Numbers
+pub mod Files

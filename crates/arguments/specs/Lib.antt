@@ -1,0 +1,2 @@
+pub mod AskedDays
+pub mod Asked

@@ -1,7 +1,0 @@
-use Rattle.std.proofs.Common.{◌≡◌, ◌++◌, length, take}
-use Rattle.std.specs.List.{flat_map}
-use Rattle.bench.specs.Ticks.{tick_line}
-use Rattle.bench.proofs.ticks.write_ticks.Given as goal
-
-abbrev pub invariant-loop-tick : goal.invariant-loop-tick
-invariant-loop-tick l = (l.text.items ≡ l.initial.text.items ++ flat_map tick_line (take l.tick-index l.seen)) × (length l.line ≡ 80)

@@ -1,4 +1,0 @@
-pub mod Asked
-pub mod Played
-pub mod Ticks
-pub mod AskedDays

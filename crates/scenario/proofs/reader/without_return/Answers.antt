@@ -1,6 +1,0 @@
-use Rattle.std.proofs.Common.{refl}
-use Rattle.scenario.proofs.TextLines.{return_stripped}
-use Rattle.scenario.proofs.reader.without_return.Goals as goal
-
-pub returns : goal.returns
-returns c = rw c.unwrap_or.ensures (return_stripped _ _ _ c.strip_suffix.ensures.cases refl)

@@ -1,8 +1,0 @@
-use Rattle.std.proofs.Common.{◌≡◌, ◌+◌, drop}
-use Rattle.std.specs.List.{position_or_len}
-use Rattle.scenario.specs.Words.{is_blank}
-use Rattle.scenario.proofs.words.word_length.Given as goal
-
--- the bytes before the place are counted, and the rest is left
-abbrev pub invariant-loop-at : goal.invariant-loop-at
-invariant-loop-at l = position_or_len is_blank l.line ≡ l.at + position_or_len is_blank (drop l.at l.line)
