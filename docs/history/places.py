@@ -3,7 +3,8 @@
 
 usage: docs/history/places.py [COMMIT]      without a commit: the files as they lie here
 
-It is history and is not kept up, as that page is. It lists what could be a place, by form alone; which of the lines are places is judged by reading them.
+It is history and is not kept up, as that page is. It lists what could be a place, by form alone; which of the lines are
+places is judged by reading them.
 """
 
 import os
