@@ -1,9 +1,10 @@
 #!/usr/bin/env python3
-"""Lists, by point, the lines of src/ (and for the last point of proofs/) that docs/DESIGN-PASS.md speaks of, with counts.
+"""Lists, by point, the lines of src/ (and for the last point of proofs/) that DESIGN-PASS.md speaks of, with counts.
 
-usage: tools/places.py [COMMIT]      without a commit: the files as they lie here
+usage: docs/history/places.py [COMMIT]      without a commit: the files as they lie here
 
-It lists what could be a place, by form alone; which of the lines are places is judged by reading them.
+It is history and is not kept up, as that page is. It lists what could be a place, by form alone; which of the lines are
+places is judged by reading them.
 """
 
 import os
@@ -103,7 +104,7 @@ def report(title, found):
 
 
 def main(commit):
-    os.chdir(os.path.join(os.path.dirname(os.path.abspath(__file__)), ".."))
+    os.chdir(os.path.join(os.path.dirname(os.path.abspath(__file__)), "..", ".."))
     source = list(files(commit, "src", ".rt"))
     for title, pattern in LINES:
         report(title, lines(source, pattern))

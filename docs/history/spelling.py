@@ -1,11 +1,12 @@
 #!/usr/bin/env python3
 """Respells this repository's own definitions and lemmas as today's Rattle spells names: words joined by _, types in camel case.
 
-usage: tools/spelling.py      at the top of the repository, once, after the kit's port/port.py
+usage: docs/history/spelling.py      at the top of the repository, once, after the kit's port/port.py
 
-It was used once, when the repository was brought to a newer Rattle; docs/PORT.md says when. It touches clauses and imports in
-crates/*/src, specs/ and proofs/, and what README.md and docs/ quote between backticks; never a function's name, a string, a
-must-fail edit or an edit's name. It writes nothing, and says why, where two names would fall together in one file.
+It is history and is not kept up: it was used once, when the repository was brought to a newer Rattle; PORT.md says when. It
+touches clauses and imports in crates/*/src, specs/ and proofs/, and what README.md and docs/ quote between backticks; never a
+function's name, a string, a must-fail edit or an edit's name. It writes nothing, and says why, where two names would fall
+together in one file.
 """
 
 import pathlib
@@ -76,7 +77,7 @@ def turned(path):
 
 
 def main():
-    top = pathlib.Path(__file__).resolve().parent.parent
+    top = pathlib.Path(__file__).resolve().parents[2]
     edits = {path.stem for path in top.glob("crates/*/must-fail/*.edit")}
     if edits & NEW.keys():
         sys.exit(f"spelling: an edit has the name of a definition: {sorted(edits & NEW.keys())}")
