@@ -1,24 +1,7 @@
-// Whole texts: their head, their events with the numbers of their lines, and where they stop.
-use crate::setting::{EVENTS, HEAD, LINES, TEXT, reads_day};
-use scenario::{Reader, Stop, read};
+// How a reader goes on: its events with the numbers of their lines, and where it stops.
+use crate::setting::{EVENTS, HEAD, LINES, TEXT};
+use scenario::{Reader, Stop};
 use std::test::Fail;
-
-// The day of the setting with comments, lines that say nothing, both line ends, and none at the end.
-const ADORNED: &str =
-    "# a day\r\n\r\n\tblur 1\nbrake 3\r\n#blur 2\n controllers 4\n \t\r\ntrain 490 500 510 2000 100\ntrain 375 380 385 398 80 \n\n  # now it begins\r\ntick 1 wish 7 speed 5\r\n\nmark\t1\t\r\nreport 0\nhear 2 message 0\n# # #\ntell 3 train 1\ngrant 2 train 0\ntake message 12\n\n\nrestart 3";
-
-#[test]
-fn comments_and_empty_lines_say_nothing(rt: HostRuntime) -> Result<(), Fail> {
-    let [brake, blur, controllers, first, second] = HEAD;
-    let head = [blur, brake, controllers, first, second];
-    reads_day(
-        &rt,
-        rt.alloc(),
-        ADORNED,
-        &head,
-        &[11, 13, 14, 15, 17, 18, 19, 22],
-    )
-}
 
 #[test]
 fn events_come_piece_by_piece(rt: HostRuntime) -> Result<(), Fail> {
