@@ -1,8 +1,9 @@
 // Bytes that come to a unit and to a controller, and the bytes that they send.
 use crate::states::{FARTHEST, FIRST, SECOND, heard};
+use crate::vectors::{GRANTS, REFUSED, REPORTS, STREAM};
 use braking::Refusal;
+use controller::Controller;
 use message::Message;
-use message_tests::vectors::{GRANTS, REFUSED, REPORTS, STREAM};
 use onboard::Onboard;
 use std::process::Abort;
 use std::test::Fail;
@@ -35,19 +36,17 @@ fn first_refusal_is_the_answer(rt: HostRuntime) -> Result<(), Fail> {
     Ok(())
 }
 
+// Reports are for controllers, and grants for the units of their trains. A train of 100 whose low place is 538 reports 438;
+// a controller tells it on, and grants it to train 1.
 #[test]
-fn reports_are_for_controllers(rt: HostRuntime) {
+fn stored_bytes_come_and_are_sent(rt: HostRuntime) {
     for (train, place, bytes) in REPORTS {
         assert_eq!(rt; radio::take(SECOND, bytes), (SECOND, Ok(())));
         let (after, answer) = radio::hear(heard(0, 0), bytes);
         assert_eq!(rt; answer, Ok(()));
         assert_eq!(rt; after.tell(train).1, Ok(Message::Report { train, place }));
     }
-}
-
-#[test]
-fn grants_are_for_units(rt: HostRuntime) {
-    let controller = heard(400, 300);
+    let controller = heard(438, 0);
     for (train, place, bytes) in GRANTS {
         assert_eq!(rt; radio::hear(controller, bytes), (controller, Ok(())));
         let own = Onboard { train, ..SECOND };
@@ -56,33 +55,33 @@ fn grants_are_for_units(rt: HostRuntime) {
         let other = Refusal::OtherTrain { train };
         assert_eq!(rt; radio::take(FIRST, bytes), (FIRST, Err(other)));
     }
-}
-
-// A train of 100 whose low place is 538 reports 438; a controller tells it on, and grants it to train 1.
-#[test]
-fn sent_as_the_stored_bytes(rt: HostRuntime) {
     let (_, _, report) = REPORTS[1];
     let (_, _, grant) = GRANTS[1];
     let moved = Onboard { low: 538, ..FIRST };
     assert_eq!(rt; radio::report(moved), (moved, Ok(*report)));
-    let controller = heard(438, 0);
     assert_eq!(rt; radio::tell(controller, 0), (controller, Ok(*report)));
     assert_eq!(rt; radio::grant(controller, 0), (controller, Ok(*grant)));
 }
 
+// Memory that is lent may hold anything: no message is made of a place or of a train that cannot be.
 #[test]
 fn what_cannot_be_is_not_sent(rt: HostRuntime) {
+    let too_far = Err(Refusal::PlaceTooFar);
+    let too_high = Err(Refusal::TrainTooHigh);
     let far = Onboard {
         low: FARTHEST + 1,
         train: 64,
         ..FIRST
     };
-    let too_far = Err(Refusal::PlaceTooFar);
     assert_eq!(rt; radio::report(far), (far, too_far));
     let unknown = Onboard { train: 64, ..FIRST };
-    let too_high = Err(Refusal::TrainTooHigh);
     assert_eq!(rt; radio::report(unknown), (unknown, too_high));
-    let controller = heard(400, 300);
-    assert_eq!(rt; radio::tell(controller, 64), (controller, too_high));
-    assert_eq!(rt; radio::grant(controller, 63), (controller, too_high));
+    let mut broken = Controller::new();
+    broken.heard[7] = FARTHEST + 1;
+    broken.heard[63] = FARTHEST + 1;
+    assert_eq!(rt; radio::tell(broken, 7), (broken, too_far));
+    assert_eq!(rt; radio::grant(broken, 7), (broken, too_far));
+    assert_eq!(rt; radio::tell(broken, 64), (broken, too_high));
+    // the train behind is looked at before the place
+    assert_eq!(rt; radio::grant(broken, 63), (broken, too_high));
 }

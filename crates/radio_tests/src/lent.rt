@@ -1,10 +1,10 @@
 // Each entry against its step by value, refusals among the cases: the same answer, and the lent state is what the step
 // hands back.
 use crate::states::{FARTHEST, FIRST, SECOND, heard};
+use crate::vectors::{GRANTS, REFUSED, REPORTS};
 use braking::Brakes;
 use controller::Controller;
 use entries::{controller_entry, unit_entry};
-use message_tests::vectors::{GRANTS, REFUSED, REPORTS};
 use onboard::Onboard;
 use std::fmt::Debug;
 use std::process::Abort;
