@@ -1,0 +1,222 @@
+"""Tells what rt is at: which crates the processes below it prove, and for how long already. rt prints a crate's lines only
+when that crate is done, so /proc is asked. Called by tools/prove.py."""
+
+import os
+import queue
+import signal
+import sys
+import threading
+import time
+
+PROOF, TESTS, EDITS, RUNS, GLANCE = "proof", "tests", "edits", "runs", "glance"
+LABELS = {
+    PROOF: "{}",
+    TESTS: "the tests of {}",
+    EDITS: "the edits of {}",
+    RUNS: "{} runs",
+    GLANCE: "a quick look for faults at {}",
+}
+TICKS = os.sysconf("SC_CLK_TCK")
+# How often /proc is looked at: what a process takes after the last look is not seen.
+LOOK = 0.25
+# Where nobody watches a terminal, what takes long is told again after so many seconds,
+AGAIN = 30
+# and what began anew within these is not told to have ended: a check and the compiler after it are one.
+PAUSE = 3
+
+
+class Process:
+    """A process that works at a crate, with all that it started."""
+
+    def __init__(self, crate, kind, began):
+        self.crate, self.kind, self.began = crate, kind, began
+        self.seen, self.seconds = began, 0.0
+
+
+class Watch:
+    """What was at work below a process, each time that it looked."""
+
+    def __init__(self, top):
+        self.top, self.all, self.now = top, {}, []
+
+    def look(self):
+        found, children = stats(), {}
+        for pid, (parent, _, _) in found.items():
+            children.setdefault(parent, []).append(pid)
+        self.now, now = [], uptime()
+        left = list(children.get(self.top, []))
+        while left:
+            pid = left.pop()
+            key = pid, found[pid][2]
+            if key not in self.all:
+                of = work_of(pid)
+                if of is None:
+                    left += children.get(pid, [])
+                    continue
+                self.all[key] = Process(*of, key[1])
+            process = self.all[key]
+            process.seconds = max(process.seconds, taken(pid, found, children))
+            process.seen = now
+            self.now.append(process)
+
+    def activities(self):
+        """What is at work now: by crate and kind, since when."""
+        since = {}
+        for it in self.now:
+            key = it.crate, it.kind
+            since[key] = min(it.began, since.get(key, it.began))
+        return since
+
+
+def stats():
+    """Of each process its parent, the processor seconds of it and of its children that ended, and when it began."""
+    found = {}
+    for name in os.listdir("/proc"):
+        if name.isdigit():
+            try:
+                with open(f"/proc/{name}/stat", encoding="utf-8", errors="replace") as it:
+                    words = it.read().rpartition(")")[2].split()
+            except OSError:
+                continue
+            found[int(name)] = int(words[1]), sum(map(int, words[11:15])) / TICKS, int(words[19]) / TICKS
+    return found
+
+
+def taken(pid, found, children):
+    return found[pid][1] + sum(taken(it, found, children) for it in children.get(pid, []))
+
+
+def uptime():
+    """The clock by which /proc tells when a process began: seconds since the machine was started."""
+    return time.clock_gettime(time.CLOCK_BOOTTIME)
+
+
+def work_of(pid):
+    """The crate that a process works at, and of what kind its work is; None where it is none of rt's, or not yet."""
+    try:
+        with open(f"/proc/{pid}/cmdline", encoding="utf-8", errors="replace") as it:
+            words = it.read().split("\0")
+        folder = os.readlink(f"/proc/{pid}/cwd")
+    except OSError:
+        return None
+    command = os.path.basename(words[0])
+    if command == "rattle" and "--crate-name" in words:
+        crate = words[words.index("--crate-name") + 1]
+        # rt tries each edit in a folder of this name
+        if os.path.basename(folder).startswith("rt-edit-"):
+            return crate, EDITS
+        # before it builds anything, rt looks for what is wrong in any source, and proves nothing
+        if "--only" in words and not words[words.index("--only") + 1]:
+            return crate, GLANCE
+        return crate, TESTS if "--test" in words else PROOF
+    # rt runs each program from a folder of this name, and tests by rattle-test
+    ran = [it for it in words if "/rt-run-" in it and "/bin/" in it]
+    if ran and command in ("rattle-test", os.path.basename(ran[0])):
+        return os.path.basename(ran[0]).partition(".")[0].removesuffix("_tests"), RUNS
+    return None
+
+
+class Sign:
+    """Says on standard error what is at work: on a terminal in one line that is written again each second, and else in a line
+    where something begins, where it ends, and now and then where it takes long."""
+
+    def __init__(self, name, doing, number, at_first=""):
+        """`doing` is what the line begins with, `number` gives the how-many-th of how many a crate is, and `at_first` is said
+        before anything is told to be at work."""
+        self.name, self.doing, self.number, self.at_first = name, doing, number, at_first
+        self.on_terminal = sys.stderr.isatty()
+        self.shown, self.written = False, 0.0
+        # by crate and kind: since when it is at work, when it was last seen, and when it was last told
+        self.told = {}
+
+    def say(self, text):
+        """A line that stays."""
+        self.clear()
+        print(f"{self.name}: {text}", file=sys.stderr, flush=True)
+
+    def clear(self):
+        if self.shown:
+            print("\r\033[K", end="", file=sys.stderr, flush=True)
+            self.shown, self.written = False, 0.0
+
+    def tell(self, since):
+        """Tells what is at work since when."""
+        if since and self.at_first:
+            self.say(self.at_first)
+            self.at_first = ""
+        if self.on_terminal:
+            self.write_line(since)
+        else:
+            self.write_changes(since)
+
+    def write_line(self, since):
+        now = time.monotonic()
+        if now < self.written + 1:
+            return
+        if not since:
+            return self.clear()
+        parts = [f"{LABELS[kind].format(crate)} {uptime() - began:.0f} s" for (crate, kind), began in since.items()]
+        line = f"{self.name}: {self.doing} {self.number(*list(since)[0])}: {', '.join(parts)}"
+        # a terminal that does not tell how wide it is says 0
+        line = line[: (os.get_terminal_size(sys.stderr.fileno()).columns or 80) - 1]
+        print(f"\r\033[K{line}", end="", file=sys.stderr, flush=True)
+        self.shown, self.written = True, now
+
+    def write_changes(self, since):
+        now = uptime()
+        for key, began in since.items():
+            what = f"{self.doing} {self.number(*key)}: {LABELS[key[1]].format(key[0])}"
+            if key not in self.told:
+                self.told[key] = [began, now, now]
+                self.say(what)
+            elif now >= self.told[key][2] + AGAIN:
+                self.told[key][2] = now
+                self.say(f"{what}, {now - self.told[key][0]:.0f} s so far")
+            self.told[key][1] = now
+        for key in [it for it, (_, seen, _) in self.told.items() if now > seen + PAUSE]:
+            self.tell_end(key)
+
+    def tell_end(self, key):
+        began, seen, _ = self.told.pop(key)
+        self.say(f"{LABELS[key[1]].format(key[0])} took {seen - began:.0f} s")
+
+    def end(self):
+        self.clear()
+        for key in list(self.told):
+            self.tell_end(key)
+
+
+def follow(child, watch, sign, heard):
+    """Watches a command until it ends, and hands each line that it prints to `heard`."""
+    lines = queue.SimpleQueue()
+
+    def read():
+        for line in child.stdout:
+            lines.put(line)
+        lines.put(None)
+
+    threading.Thread(target=read, daemon=True).start()
+    line, next_look = "", time.monotonic() + LOOK
+    try:
+        while line is not None:
+            try:
+                line = lines.get(timeout=max(0, next_look - time.monotonic()))
+                if line is not None:
+                    heard(line)
+            except queue.Empty:
+                pass
+            if time.monotonic() >= next_look:
+                watch.look()
+                sign.tell(watch.activities())
+                next_look = time.monotonic() + LOOK
+        sign.end()
+    except BaseException:
+        sign.clear()
+        child.terminate()
+        raise
+
+
+def end_where_told():
+    """Where this is interrupted or told to end, so is what it started, and nothing more is said."""
+    signal.signal(signal.SIGTERM, lambda *_: sys.exit(128 + signal.SIGTERM))
+    signal.signal(signal.SIGINT, lambda *_: sys.exit(128 + signal.SIGINT))
