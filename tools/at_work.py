@@ -1,5 +1,5 @@
-"""Tells what rt is at: which crates the processes below it prove, and for how long already. rt prints a crate's lines only
-when that crate is done, so /proc is asked. Called by tools/prove.py."""
+"""Tells what rt is at: which crates the processes below it prove, for how long already, and what processor time they take.
+rt prints a crate's lines only when that crate is done, so /proc is asked. Called by tools/prove.py and tools/gate."""
 
 import os
 import queue
@@ -28,8 +28,8 @@ PAUSE = 3
 class Process:
     """A process that works at a crate, with all that it started."""
 
-    def __init__(self, crate, kind, began):
-        self.crate, self.kind, self.began = crate, kind, began
+    def __init__(self, crate, kind, edit, began):
+        self.crate, self.kind, self.edit, self.began = crate, kind, edit, began
         self.seen, self.seconds = began, 0.0
 
 
@@ -49,11 +49,11 @@ class Watch:
             pid = left.pop()
             key = pid, found[pid][2]
             if key not in self.all:
-                of = work_of(pid)
-                if of is None:
+                work = work_of(pid)
+                if work is None:
                     left += children.get(pid, [])
                     continue
-                self.all[key] = Process(*of, key[1])
+                self.all[key] = Process(*work, key[1])
             process = self.all[key]
             process.seconds = max(process.seconds, taken(pid, found, children))
             process.seen = now
@@ -66,6 +66,24 @@ class Watch:
             key = it.crate, it.kind
             since[key] = min(it.began, since.get(key, it.began))
         return since
+
+    def of(self, crate, kind=None):
+        return [it for it in self.all.values() if it.crate == crate and kind in (None, it.kind)]
+
+    def taken(self, crate, kind):
+        """The processor seconds that were taken for a crate."""
+        return sum(it.seconds for it in self.of(crate, kind))
+
+    def clock(self, crate, kind=None):
+        """For how long something of a crate was at work, by the clock."""
+        whole = until = 0.0
+        for it in sorted(self.of(crate, kind), key=lambda it: it.began):
+            whole += max(0.0, it.seen - max(it.began, until))
+            until = max(until, it.seen)
+        return whole
+
+    def edits_begun(self, crate):
+        return {it.edit for it in self.of(crate, EDITS) if it.edit}
 
 
 def stats():
@@ -92,7 +110,8 @@ def uptime():
 
 
 def work_of(pid):
-    """The crate that a process works at, and of what kind its work is; None where it is none of rt's, or not yet."""
+    """The crate that a process works at, of what kind its work is, and which edit it tries, if it does; None where it is none
+    of those that work, or not yet."""
     try:
         with open(f"/proc/{pid}/cmdline", encoding="utf-8", errors="replace") as it:
             words = it.read().split("\0")
@@ -101,29 +120,39 @@ def work_of(pid):
         return None
     command = os.path.basename(words[0])
     if command == "rattle" and "--crate-name" in words:
-        crate = words[words.index("--crate-name") + 1]
-        # rt tries each edit in a folder of this name
+        crate = after(words, "--crate-name")
+        # rt tries each edit in a folder of this name, over a copy of what was proved, which has the edit's number
         if os.path.basename(folder).startswith("rt-edit-"):
-            return crate, EDITS
+            number = os.path.basename(after(words, "--incremental"))
+            return crate, EDITS, number if number.isdigit() else None
         # before it builds anything, rt looks for what is wrong in any source, and proves nothing
-        if "--only" in words and not words[words.index("--only") + 1]:
-            return crate, GLANCE
-        return crate, TESTS if "--test" in words else PROOF
+        if "--only" in words and not after(words, "--only"):
+            return crate, GLANCE, None
+        return crate, TESTS if "--test" in words else PROOF, None
     # rt runs each program from a folder of this name, and tests by rattle-test
     ran = [it for it in words if "/rt-run-" in it and "/bin/" in it]
     if ran and command in ("rattle-test", os.path.basename(ran[0])):
-        return os.path.basename(ran[0]).partition(".")[0].removesuffix("_tests"), RUNS
+        return os.path.basename(ran[0]).partition(".")[0].removesuffix("_tests"), RUNS, None
     return None
+
+
+def after(words, flag):
+    """The word after a flag, or nothing."""
+    return words[words.index(flag) + 1] if flag in words[:-1] else ""
+
+
+def label(crate, kind):
+    return LABELS[kind].format(crate)
 
 
 class Sign:
     """Says on standard error what is at work: on a terminal in one line that is written again each second, and else in a line
     where something begins, where it ends, and now and then where it takes long."""
 
-    def __init__(self, name, doing, number, at_first=""):
-        """`doing` is what the line begins with, `number` gives the how-many-th of how many a crate is, and `at_first` is said
-        before anything is told to be at work."""
-        self.name, self.doing, self.number, self.at_first = name, doing, number, at_first
+    def __init__(self, name, head, label=label, at_first=""):
+        """`head` gives what a line begins with, of a crate: how far all is. `label` gives what is told of a crate and a kind of
+        work, and `at_first` is said before anything is told."""
+        self.name, self.head, self.label, self.at_first = name, head, label, at_first
         self.on_terminal = sys.stderr.isatty()
         self.shown, self.written = False, 0.0
         # by crate and kind: since when it is at work, when it was last seen, and when it was last told
@@ -155,8 +184,8 @@ class Sign:
             return
         if not since:
             return self.clear()
-        parts = [f"{LABELS[kind].format(crate)} {uptime() - began:.0f} s" for (crate, kind), began in since.items()]
-        line = f"{self.name}: {self.doing} {self.number(*list(since)[0])}: {', '.join(parts)}"
+        parts = [f"{self.label(*key)} {uptime() - began:.0f} s" for key, began in since.items()]
+        line = f"{self.name}: {self.head(list(since)[0][0])}: {', '.join(parts)}"
         # a terminal that does not tell how wide it is says 0
         line = line[: (os.get_terminal_size(sys.stderr.fileno()).columns or 80) - 1]
         print(f"\r\033[K{line}", end="", file=sys.stderr, flush=True)
@@ -165,7 +194,7 @@ class Sign:
     def write_changes(self, since):
         now = uptime()
         for key, began in since.items():
-            what = f"{self.doing} {self.number(*key)}: {LABELS[key[1]].format(key[0])}"
+            what = f"{self.head(key[0])}: {self.label(*key)}"
             if key not in self.told:
                 self.told[key] = [began, now, now]
                 self.say(what)
@@ -178,7 +207,7 @@ class Sign:
 
     def tell_end(self, key):
         began, seen, _ = self.told.pop(key)
-        self.say(f"{LABELS[key[1]].format(key[0])} took {seen - began:.0f} s")
+        self.say(f"{label(*key)} took {seen - began:.0f} s")
 
     def end(self):
         self.clear()
@@ -210,13 +239,20 @@ def follow(child, watch, sign, heard):
                 sign.tell(watch.activities())
                 next_look = time.monotonic() + LOOK
         sign.end()
-    except BaseException:
+    except BaseException as reason:
         sign.clear()
-        child.terminate()
+        end(child, reason)
         raise
 
 
+def end(child, reason):
+    """Lets rt end well: rt ci puts back what it set aside. A terminal tells it of an interrupt itself."""
+    if not isinstance(reason, KeyboardInterrupt):
+        is_deaf = signal.getsignal(signal.SIGINT) is signal.SIG_IGN
+        child.send_signal(signal.SIGTERM if is_deaf else signal.SIGINT)
+    child.wait()
+
+
 def end_where_told():
-    """Where this is interrupted or told to end, so is what it started, and nothing more is said."""
+    """Has this end what it started where it is told to end."""
     signal.signal(signal.SIGTERM, lambda *_: sys.exit(128 + signal.SIGTERM))
-    signal.signal(signal.SIGINT, lambda *_: sys.exit(128 + signal.SIGINT))

@@ -20,7 +20,7 @@ AT_FIRST = "proving and building what has changed (from nothing it takes some mi
 def main(root, program, name):
     at_work.end_where_told()
     order = [*crates.read(root)[program], program]
-    sign = at_work.Sign(name, "proving", lambda crate, _: f"{order.index(crate) + 1} of {len(order)}", AT_FIRST)
+    sign = at_work.Sign(name, lambda crate: f"proving {order.index(crate) + 1} of {len(order)}", at_first=AT_FIRST)
     log = []
 
     def heard(line):
