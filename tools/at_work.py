@@ -4,6 +4,7 @@ rt prints a crate's lines only when that crate is done, so /proc is asked. Calle
 import os
 import queue
 import signal
+import subprocess
 import sys
 import threading
 import time
@@ -215,44 +216,62 @@ class Sign:
             self.tell_end(key)
 
 
-def follow(child, watch, sign, heard):
-    """Watches a command until it ends, and hands each line that it prints to `heard`."""
-    lines = queue.SimpleQueue()
+class Commands:
+    """Commands that run side by side, with a sign of what they are at."""
 
-    def read():
+    def __init__(self, sign):
+        self.sign, self.watch = sign, Watch(os.getpid())
+        self.running, self.lines = {}, queue.SimpleQueue()
+
+    def start(self, name, words, folder):
+        how = {"cwd": folder, "stdin": subprocess.DEVNULL, "stdout": subprocess.PIPE, "stderr": subprocess.STDOUT}
+        child = subprocess.Popen(words, encoding="utf-8", errors="replace", **how)
+        self.running[name] = child
+        threading.Thread(target=self.read, args=(name, child), daemon=True).start()
+
+    def read(self, name, child):
         for line in child.stdout:
-            lines.put(line)
-        lines.put(None)
+            self.lines.put((name, line))
+        self.lines.put((name, None))
 
-    threading.Thread(target=read, daemon=True).start()
-    line, next_look = "", time.monotonic() + LOOK
-    try:
-        while line is not None:
-            try:
-                line = lines.get(timeout=max(0, next_look - time.monotonic()))
-                if line is not None:
-                    heard(line)
-            except queue.Empty:
-                pass
-            if time.monotonic() >= next_look:
-                watch.look()
-                sign.tell(watch.activities())
-                next_look = time.monotonic() + LOOK
-        sign.end()
-    except BaseException as reason:
-        sign.clear()
-        end(child, reason)
-        raise
+    def follow(self, heard, ended):
+        """Until all have ended, hands what they print to `heard`, line by line, and their status to `ended`, which may start more."""
+        next_look = time.monotonic() + LOOK
+        try:
+            while self.running:
+                try:
+                    name, line = self.lines.get(timeout=max(0, next_look - time.monotonic()))
+                    if line is not None:
+                        heard(name, line)
+                    else:
+                        status = self.running.pop(name).wait()
+                        ended(name, status if status >= 0 else 128 - status)
+                except queue.Empty:
+                    pass
+                if time.monotonic() >= next_look:
+                    self.watch.look()
+                    self.sign.tell(self.watch.activities())
+                    next_look = time.monotonic() + LOOK
+            self.sign.end()
+        except BaseException as reason:
+            self.sign.clear()
+            self.end(reason)
+            raise
 
-
-def end(child, reason):
-    """Lets rt end well: rt ci puts back what it set aside. A terminal tells it of an interrupt itself."""
-    if not isinstance(reason, KeyboardInterrupt):
+    def end(self, reason):
+        """Lets rt end well: rt ci puts back what it set aside. A terminal tells it of an interrupt itself."""
         is_deaf = signal.getsignal(signal.SIGINT) is signal.SIG_IGN
-        child.send_signal(signal.SIGTERM if is_deaf else signal.SIGINT)
-    child.wait()
+        for child in self.running.values():
+            if not isinstance(reason, KeyboardInterrupt):
+                child.send_signal(signal.SIGTERM if is_deaf else signal.SIGINT)
+        for child in self.running.values():
+            child.wait()
 
 
-def end_where_told():
-    """Has this end what it started where it is told to end."""
+def as_program(call):
+    """Ends with the status that the call gives; where this is told to end, or interrupted, with what it started."""
     signal.signal(signal.SIGTERM, lambda *_: sys.exit(128 + signal.SIGTERM))
+    try:
+        sys.exit(call())
+    except KeyboardInterrupt:
+        sys.exit(128 + signal.SIGINT)

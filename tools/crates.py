@@ -2,11 +2,25 @@
 
 
 def read(root):
-    """Each crate with those of the repository below it, in the order of crates.txt, where a crate comes after those below it."""
-    crates = {}
+    """Each crate with all those of the repository below it. Each, there too, comes after those below it."""
+    uses = {}
     with open(f"{root}/crates.txt", encoding="utf-8") as lines:
         for line in lines:
             name, colon, below = line.partition("#")[0].partition(":")
             if colon:
-                crates[name.split()[0]] = below.split()
-    return {name: [it for it in below if it in crates] for name, below in crates.items()}
+                uses[name.split()[0]] = below.split()
+    found = {}
+
+    def add(name):
+        if name not in found:
+            below = []
+            for it in uses[name]:
+                # the others are the kit's
+                if it in uses:
+                    add(it)
+                    below += [one for one in [*found[it], it] if one not in below]
+            found[name] = below
+
+    for name in uses:
+        add(name)
+    return found
