@@ -265,7 +265,11 @@ class Commands:
             if not isinstance(reason, KeyboardInterrupt):
                 child.send_signal(signal.SIGTERM if is_deaf else signal.SIGINT)
         for child in self.running.values():
-            child.wait()
+            try:
+                child.wait(2)
+            except subprocess.TimeoutExpired:
+                self.sign.say("waiting for rt, which ends what it is at, and puts back what it set aside")
+                child.wait()
 
 
 def as_program(call):
@@ -274,4 +278,6 @@ def as_program(call):
     try:
         sys.exit(call())
     except KeyboardInterrupt:
-        sys.exit(128 + signal.SIGINT)
+        # the script that called this ends too, if it sees that this was ended by the interrupt
+        signal.signal(signal.SIGINT, signal.SIG_DFL)
+        os.kill(os.getpid(), signal.SIGINT)
