@@ -89,6 +89,7 @@ class Edit:
     around: str
     # which one it is of those that would be told in the same words
     which: int = 1
+    is_stored = False
 
     def change(self):
         """Where it is and what it changes, on one line."""
@@ -103,8 +104,19 @@ class Edit:
         """By this docs/PROMISES.md knows it; line numbers would not last."""
         return f"{self.file} {self.change()}"
 
+    def told(self, crate):
+        return f"crates/{crate}/src/{self.file}:{self.line}: {self.change()}"
+
+    def has(self, word):
+        return word in f"{self.file} {self.function} {self.old} {self.new}"
+
     def made(self, text):
         return text[: self.at] + self.new + text[self.end :]
+
+    def texts(self, folder):
+        """The file that it changes, by its path in the crate's folder, as it then reads."""
+        with open(f"{folder}/src/{self.file}", encoding="utf-8") as it:
+            return {f"src/{self.file}": self.made(it.read())}
 
 
 def short(text):
@@ -591,10 +603,12 @@ def public_functions(found):
 
 
 class Order:
-    """The edits in the order in which they are tried: of each public function until one counts, then of all functions in turn."""
+    """The edits in the order in which they are tried: first those that are stored, then edits of each public function until one
+    counts, then of all functions in turn."""
 
-    def __init__(self, found, seed):
+    def __init__(self, stored, found, seed):
         chance = random.Random(seed)
+        self.stored = list(stored)
         self.left = {}
         for edit in found:
             self.left.setdefault(edit.place(), []).append(edit)
@@ -607,6 +621,8 @@ class Order:
 
     def next(self):
         """The next edit, or none if none is left, or if a public function that still wants one has it under way."""
+        if self.stored:
+            return self.stored.pop(0)
         self.turns = [it for it in self.turns if self.left[it]]
         self.wanting = [it for it in self.wanting if self.left[it] or it in self.running]
         place = next((it for it in self.wanting if it not in self.running), None)

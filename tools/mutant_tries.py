@@ -9,13 +9,16 @@ import sys
 import tempfile
 from concurrent.futures import FIRST_COMPLETED, ThreadPoolExecutor, wait
 
+from stored_edits import Unfit
+
 PROVED = "STILL PROVED"
 EQUIVALENT = "equivalent"
 REFUSED = "refused"
 FILE_ONLY = "only a proof file"
 NOT_RUST = "does not compile"
+UNFIT = "cannot be applied"
 UNKNOWN = "not tried to its end"
-OUTCOMES = [REFUSED, EQUIVALENT, PROVED, FILE_ONLY, UNKNOWN, NOT_RUST]
+OUTCOMES = [REFUSED, EQUIVALENT, PROVED, FILE_ONLY, UNKNOWN, NOT_RUST, UNFIT]
 COUNTED = [REFUSED, EQUIVALENT, PROVED]
 # A proof file that names what an edit took away, or that was not admitted because of it.
 FILE_UNFIT = re.compile(r"(note: )?(\./)?proofs/.*(has no field|is not in scope|has no `|was not admitted)")
@@ -83,18 +86,30 @@ class Copy:
 
     def attempt(self, edit):
         """Has the crate proved with the edit."""
-        path = f"{self.folder}/src/{edit.file}"
-        with open(path, encoding="utf-8") as it:
-            text = it.read()
         try:
-            with open(path, "w", encoding="utf-8") as it:
-                it.write(edit.made(text))
+            texts = edit.texts(self.folder)
+        except Unfit as why:
+            return UNFIT, f" ({why})"
+        were = {path: read(f"{self.folder}/{path}") for path in texts}
+        try:
+            for path, text in texts.items():
+                write(f"{self.folder}/{path}", text)
             return outcome(*self.check())
         finally:
-            with open(path, "w", encoding="utf-8") as it:
-                it.write(text)
+            for path, text in were.items():
+                write(f"{self.folder}/{path}", text)
             shutil.rmtree(f"{self.folder}/out", ignore_errors=True)
             shutil.copytree(f"{self.top}/kept", f"{self.folder}/out", symlinks=True)
+
+
+def read(path):
+    with open(path, encoding="utf-8") as it:
+        return it.read()
+
+
+def write(path, text):
+    with open(path, "w", encoding="utf-8") as it:
+        it.write(text)
 
 
 def outcome(status, said):
@@ -115,7 +130,7 @@ def outcome(status, said):
 
 
 def try_all(root, crate, below, order, count, jobs):
-    """Tries edits in their order until so many were proved or refused, and gives each with its outcome."""
+    """Tries edits in their order until so many of those that were drawn were proved or refused, and gives each with its outcome."""
     print(f"mutants: copying {crate} and proving it as it stands", file=sys.stderr, flush=True)
     copies = [Copy(crate)]
     try:
@@ -141,7 +156,7 @@ def in_lanes(copies, order, count):
     with ThreadPoolExecutor(len(copies)) as pool:
         try:
             while True:
-                while free and (done + len(running) < count or order.wanting):
+                while free and (order.stored or done + len(running) < count or order.wanting):
                     edit = order.next()
                     if edit is None:
                         break
@@ -154,7 +169,7 @@ def in_lanes(copies, order, count):
                     free.append(copy)
                     came, why = ended.result()
                     order.ended(edit, came in COUNTED)
-                    done += came in COUNTED
+                    done += came in COUNTED and not edit.is_stored
                     yield edit, came, why
         finally:
             # where it is interrupted, nothing is waited for

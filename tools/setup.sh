@@ -42,17 +42,11 @@ install_package() {
 }
 
 # build_bench ROOT: proves what has changed and builds ROOT/crates/bench/out/bench. A binary of an earlier proof stays where
-# it was: nothing may run unless this proof went through. The run with --help is only there to have it built.
+# it was: nothing may run unless this proof went through.
 build_bench() {
-    need grep grep
-    say "proving and building what has changed of the bench (the first time: about seven minutes)"
-    local log
-    log=$(mktemp)
-    if ! (cd "$1/crates/bench" && rt run -- --help) 2>&1 </dev/null | tee "$log" | { grep --line-buffered '^checked ' || true; } >&2; then
-        cat "$log" >&2
+    need python3 python3
+    python3 "$1/tools/prove.py" "$1" bench "${0##*/}" ||
         give_up "not proved, so nothing is run: the lines above say what is missing"
-    fi
-    rm -f "$log"
 }
 
 # build_reference ROOT: builds ROOT/reference/target/release/reference, the second implementation.
