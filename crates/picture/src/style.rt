@@ -1,12 +1,11 @@
-// How all that is drawn looks.
-ghost use Rattle.picture.specs.Styles.{classes, style_text, widths};
-ghost use Rattle.std.specs.Prelude.{◌≡◌, ◌++◌, OnOk, length, string_bytes};
+//! How all that is drawn looks.
 
 use crate::drawing::Drawing;
-use crate::marks::write_shapes;
+use crate::glyphs::GLYPHS;
+use page::write_shapes;
 use std::alloc::AllocError;
 
-// All that is drawn alike, by classes.
+/// All that is drawn alike, by classes.
 const STYLE: &str = "<style>
 text{font-family:sans-serif;font-size:160px;fill:#222;stroke:none}
 .name{font-size:290px;font-weight:bold}
@@ -37,7 +36,7 @@ text{font-family:sans-serif;font-size:160px;fill:#222;stroke:none}
 .stop{fill:none;stroke:#a83a00;stroke-width:24;stroke-dasharray:90 45}
 ";
 
-// How thick the lines of trains are: of many trains they are thinner.
+/// How thick the lines of trains are: of many trains they are thinner.
 const FEW_TRAINS: &str = ".edge{stroke-width:20}
 .known{stroke-width:7}
 .may{stroke-width:16}
@@ -48,35 +47,26 @@ const MANY_TRAINS: &str = ".edge{stroke-width:11}
 .may{stroke-width:9}
 ";
 
-// More trains than these are many.
+/// More trains than these are many.
 const MANY: usize = 16;
 
-// What stands before all that is drawn.
-pub fn write_style(out: &mut String, drawing: &Drawing) -> Result<(), AllocError>
-    ensures { OnOk result (string_bytes out.new ≡ string_bytes out.old ++ style_text drawing.now.columns (length drawing.now.tracks.items)) }
-{
-    write_classes(out)?;
-    write_widths(out, drawing.tracks.len())?;
-    out.push_str("</style>\n<defs>\n")?;
-    write_shapes(out, drawing.columns, drawing.tracks.len() as u64)?;
-    out.push_str("</defs>\n")?;
-    Ok(())
-}
-
-#[tactic(auto, unfolding(crate::specs::Styles::classes))]
-fn write_classes(out: &mut String) -> Result<(), AllocError>
-    ensures { OnOk result (string_bytes out.new ≡ string_bytes out.old ++ classes) }
-{
-    out.push_str(STYLE)
-}
-
-#[tactic(auto, unfolding(crate::specs::Styles::many_trains, crate::specs::Styles::few_trains))]
-fn write_widths(out: &mut String, trains: usize) -> Result<(), AllocError>
-    ensures { OnOk result (string_bytes out.new ≡ string_bytes out.old ++ widths trains) }
-{
-    if trains > MANY {
-        out.push_str(MANY_TRAINS)
+/// The classes, and the shapes of the glyphs.
+pub fn write_style(out: &mut String, drawing: &Drawing) -> Result<(), AllocError> {
+    let trains = drawing.tracks.len();
+    out.push_str(STYLE)?;
+    out.push_str(if trains > MANY {
+        MANY_TRAINS
     } else {
-        out.push_str(FEW_TRAINS)
-    }
+        FEW_TRAINS
+    })?;
+    out.push_str("</style>\n<defs>\n")?;
+    write_shapes(out, &GLYPHS, percent(drawing.columns, trains as u64))?;
+    out.push_str("</defs>\n")
+}
+
+/// How large glyphs are: where many events or trains stand side by side they are smaller.
+fn percent(columns: u64, trains: u64) -> u64 {
+    let by_columns = 24_000 / columns.max(1);
+    let by_trains = 1_600 / trains.max(1);
+    by_columns.min(by_trains).clamp(25, 100)
 }
