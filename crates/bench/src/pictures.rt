@@ -72,9 +72,14 @@ fn written(
             Some(why.as_str())
         }
     };
+    let mut told = String::new(alloc);
+    write!(told, "{gaps}")?;
+    if gaps.smallest.is_some() {
+        told.push_str(" decimetres")?;
+    }
     let heading = Heading {
         title,
-        gaps,
+        gaps: told.as_str(),
         refusal,
     };
     write_picture(&mut svg, drawing, heading)?;

@@ -1,5 +1,5 @@
 //! Random days, written as scenarios and played as files are.
-ghost use Rattle.random.specs.Days.{DrawnBy, IsDay};
+ghost use Rattle.random.specs.Days.{IsDay};
 ghost use Rattle.random.specs.declared.day.Day.{Day};
 ghost use Rattle.scenario.specs.Written.{scenario_text};
 ghost use Rattle.std.specs.Prelude.{◌≡◌, ◌++◌, IfOk, string_bytes};
@@ -24,7 +24,6 @@ struct Written {
 
 fn written_day(alloc: Global, seed: u64, extent: Extent) -> Result<Written, AllocError>
     ensures day { IfOk result (λ written. IsDay extent written.day) }
-    ensures drawn { IfOk result (λ written. DrawnBy seed extent written.day) }
     ensures text { IfOk result (λ written. string_bytes written.text ≡ scenario_text written.day.head.items written.day.events.items) }
 {
     let day = random_day(alloc, seed, extent)?;

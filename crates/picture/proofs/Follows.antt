@@ -7,13 +7,13 @@ use Rattle.std.proofs.lemmas.List.{get_or-set_same, length-set, get_or-set_other
 use Rattle.onboard.specs.declared.train.Train.{Train}
 use Rattle.picture.specs.declared.drawing.Drawing.{Drawing}
 use Rattle.picture.specs.declared.extent.Extent.{Extent}
-use Rattle.picture.specs.declared.scale.Scale.{Scale}
+use Rattle.page.specs.declared.scale.Scale.{Scale}
 use Rattle.picture.specs.declared.track.Lines.{Lines}
 use Rattle.picture.specs.declared.track.Track.{Track}
 use Rattle.picture.specs.declared.messages.Messages.{Messages}
 use Rattle.picture.specs.Drawings.{Begun, columns_of}
+use Rattle.picture.specs.Extents.{scale_for}
 use Rattle.picture.specs.Messages.{ColumnShown, NoMessages}
-use Rattle.picture.specs.Scales.{scale_of}
 use Rattle.picture.specs.Tracks.{Followed, NoLines, NoneDrawn, AllDrawn, Drawn, NothingSince, forgotten, nothing, since_at}
 use Rattle.picture.specs.declared.track.Since.{Since}
 
@@ -139,7 +139,7 @@ none_shown before after none shown = record {
 }
 
 pub begun : (extent : Extent) (trains : List Train) (before : List Track) (noted after : Drawing) → NoneDrawn (length trains) before →
-    noted.scale ≡ scale_of extent → noted.events ≡ 0 → noted.ticks ≡ 0 → noted.tracks.items ≡ before → noted.nearest ≡ None →
+    noted.scale ≡ scale_for extent → noted.events ≡ 0 → noted.ticks ≡ 0 → noted.tracks.items ≡ before → noted.nearest ≡ None →
     after.scale ≡ noted.scale → after.events ≡ noted.events → after.ticks ≡ noted.ticks → after.nearest ≡ noted.nearest →
     AllDrawn noted.scale noted.events trains noted.since.items after.since.items noted.tracks.items after.tracks.items →
     length noted.since.items ≡ length trains → NothingSince noted.since.items →

@@ -1,12 +1,2 @@
-pub mod Digits
 pub mod Follows
-pub mod Frames
 pub mod Gaps
-pub mod Headings
-pub mod Pictures
-pub mod Scales
-pub mod Shapes
-pub mod Shares
-pub mod Signs
-pub mod Steps
-pub mod Trains

@@ -11,13 +11,13 @@ use Rattle.picture.specs.declared.track.Lines.{Lines}
 use Rattle.picture.specs.declared.track.Since.{Since}
 use Rattle.picture.specs.declared.track.Track.{Track}
 use Rattle.picture.specs.declared.messages.Messages.{Messages}
-use Rattle.picture.specs.declared.scale.Scale.{Scale}
+use Rattle.page.specs.declared.scale.Scale.{Scale}
 use Rattle.picture.specs.declared.sending.Kind.{Kind}
 use Rattle.picture.specs.declared.sending.Kind.TheVariants as kind
 use Rattle.picture.specs.declared.sending.Sending.{Sending}
+use Rattle.picture.specs.Extents.{scale_for}
 use Rattle.picture.specs.Messages.{ColumnShown, HeardMore, MessagesKept, NoMessages, SentMore, ShownKept}
 use Rattle.picture.specs.Nearest.{SmallestGap, gap_between}
-use Rattle.picture.specs.Scales.{scale_of}
 use Rattle.picture.specs.Tracks.{AllDrawn, Followed, MarkedIf, NoLines, NothingSince, since_at}
 use Rattle.safety.specs.declared.event.Event.{Event}
 use Rattle.safety.specs.declared.event.Event.TheVariants.{Tick, Mark, Report, Hear, Tell, Grant, Take, Restart}
@@ -26,11 +26,12 @@ use Rattle.safety.specs.declared.event.Event.TheVariants.{Tick, Mark, Report, He
 abbrev pub nearest_of : Option Nearest → Option Gap → (events : ℕ) → Option Nearest
 nearest_of before None events = before
 nearest_of None (Some gap) events = Some (record { gap = gap; events = events })
-nearest_of (Some before) (Some gap) events = if nat_lt (gap_between gap) (gap_between before.gap) then Some (record { gap = gap; events = events }) else Some before
+nearest_of (Some before) (Some gap) events =
+    if nat_lt (gap_between gap) (gap_between before.gap) then Some (record { gap = gap; events = events }) else Some before
 
 -- the column of the picture that the last event is in
 abbrev pub column_of : Drawing → ℕ
-column_of drawing = min drawing.events drawing.scale.events * drawing.columns / max drawing.scale.events 1
+column_of drawing = min drawing.events drawing.scale.steps * drawing.columns / max drawing.scale.steps 1
 
 -- what happened to trains so far, after one event more: where a unit says to a tick that it brakes, its train braked,
 -- and the train of a mark passed one
@@ -181,13 +182,14 @@ columns_of e trains = min (min e.events 1290) (25600 / max trains 1)
 
 -- a drawing of a day that will have this extent, before its first event: the lines of each train begin where it stands
 pub record Begun (extent : Extent) (trains : List Train) (drawing : Drawing) : Type 0 where
-  pub scale : drawing.scale ≡ scale_of extent
+  pub scale : drawing.scale ≡ scale_for extent
   pub columns : drawing.columns ≡ columns_of extent (length trains)
   pub events : drawing.events ≡ 0
   pub ticks : drawing.ticks ≡ 0
   pub tracks : length drawing.tracks.items ≡ length trains
   pub lines : (n : ℕ) (train : Train) → slice_get trains n ≡ Some train →
-      (track : Track) × (slice_get drawing.tracks.items n ≡ Some track) × ((none : Lines) × NoLines none × Followed drawing.scale 0 train none track.lines)
+      (track : Track) × (slice_get drawing.tracks.items n ≡ Some track) ×
+      ((none : Lines) × NoLines none × Followed drawing.scale 0 train none track.lines)
   pub since : length drawing.since.items ≡ length trains
   pub nothing : NothingSince drawing.since.items
   pub restarts : drawing.restarts.items ≡ []

@@ -1,6 +1,8 @@
 -- What a picture of a day has to hold. Assumes nothing: these are definitions.
 use Rattle.std.specs.Prelude.{◌+◌, ◌-◌, ◌^◌, min, max, List, [], ◌∷◌}
 use Rattle.onboard.specs.declared.train.Train.{Train}
+use Rattle.page.specs.declared.scale.Scale.{Scale}
+use Rattle.page.specs.Scales.{scale_of}
 use Rattle.picture.specs.declared.extent.Extent.{Extent}
 
 abbrev pub nothing : Extent
@@ -18,6 +20,10 @@ with_train e train = record {
 abbrev pub with_trains : Extent → List Train → Extent
 with_trains e [] = e
 with_trains e (train ∷ trains) = with_trains (with_train e train) trains
+
+-- the scale of a picture that holds it
+abbrev pub scale_for : Extent → Scale
+scale_for e = scale_of e.events e.lowest e.farthest e.highest
 
 -- events are counted up to 2 ^ 64 - 1
 abbrev pub one_event : Extent → Extent

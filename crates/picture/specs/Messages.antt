@@ -1,18 +1,17 @@
 -- What goes over the radio. Assumes nothing: these are definitions.
-use Rattle.std.specs.Prelude.{◌≡◌, ℕ, Bool, ◌+◌, ◌-◌, ◌^◌, min, List, [], ◌∷◌, ◌++◌, length, Ok, Err, Result, None, Some, Option, nat_lt, if◌then◌else◌}
+use Rattle.std.specs.Prelude.{◌≡◌, ℕ, Bool, ◌+◌, ◌-◌, ◌^◌, min, List, [], ◌∷◌, ◌++◌, length, option_to_list, Ok, Err, Result, None, Some, Option, nat_lt, if◌then◌else◌}
 use Rattle.braking.specs.declared.refusal.Refusal.{Refusal}
-use Rattle.line.specs.Runs.{one_or_none}
 use Rattle.message.specs.declared.message.Message.{Message}
 use Rattle.message.specs.Bytes.{received}
 use Rattle.message.specs.Messages.{place_of}
 use Rattle.picture.specs.declared.messages.Column.{Column}
 use Rattle.picture.specs.declared.messages.Messages.{Messages}
-use Rattle.picture.specs.declared.scale.Scale.{Scale}
+use Rattle.page.specs.declared.scale.Scale.{Scale}
 use Rattle.picture.specs.declared.sending.Hearing.{Hearing}
 use Rattle.picture.specs.declared.sending.Kind.{Kind}
 use Rattle.picture.specs.declared.sending.Kind.TheVariants.{Report, Words, Grant}
 use Rattle.picture.specs.declared.sending.Sending.{Sending}
-use Rattle.picture.specs.Scales.{across, height}
+use Rattle.page.specs.Scales.{across, height}
 
 abbrev pub place_of_read : Result Message Refusal → ℕ
 place_of_read (Ok message) = place_of message
@@ -75,8 +74,10 @@ pub record HeardMore (s : Scale) (events : ℕ) (message : Sending) (t : Bool) (
 
 -- one column of the picture more: what it has of each kind
 pub record ColumnShown (before after : Messages) : Type 0 where
-  pub sendings : after.sendings.items ≡ before.sendings.items ++ (one_or_none before.column.report_sent ++ (one_or_none before.column.words_sent ++ one_or_none before.column.grant_sent))
-  pub hearings : after.hearings.items ≡ before.hearings.items ++ (one_or_none before.column.report_heard ++ (one_or_none before.column.words_heard ++ one_or_none before.column.grant_heard))
+  pub sendings : after.sendings.items ≡ before.sendings.items ++ (option_to_list before.column.report_sent ++
+      (option_to_list before.column.words_sent ++ option_to_list before.column.grant_sent))
+  pub hearings : after.hearings.items ≡ before.hearings.items ++ (option_to_list before.column.report_heard ++
+      (option_to_list before.column.words_heard ++ option_to_list before.column.grant_heard))
   pub sent : after.sent.items ≡ before.sent.items
   pub heard : after.heard ≡ before.heard
   pub column : after.column ≡ empty

@@ -1,12 +1,12 @@
 -- The lines of one train. Assumes nothing: these are definitions.
 use Rattle.std.specs.Prelude.{◌≡◌, ℕ, Bool, true, false, ◌-◌, ◌<◌, ◌≤◌, min, List, [], ◌∷◌, ◌++◌, length, None, Some, Option, get_or, set, slice_get}
 use Rattle.onboard.specs.declared.train.Train.{Train}
-use Rattle.picture.specs.declared.page.Point.{Point}
-use Rattle.picture.specs.declared.scale.Scale.{Scale}
+use Rattle.page.specs.declared.point.Point.{Point}
+use Rattle.page.specs.declared.scale.Scale.{Scale}
 use Rattle.picture.specs.declared.track.Lines.{Lines}
 use Rattle.picture.specs.declared.track.Since.{Since}
 use Rattle.picture.specs.declared.track.Track.{Track}
-use Rattle.picture.specs.Scales.{across, height}
+use Rattle.page.specs.Scales.{across, height}
 
 -- a line goes on to where a place is after so many events
 pub record GoesOn (s : Scale) (events place : ℕ) (before after : List Point) : Type 0 where

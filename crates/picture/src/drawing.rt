@@ -1,38 +1,36 @@
-// A picture of a day while it is drawn, event after event.
+//! A picture of a day while it is drawn, event after event.
 ghost use Rattle.picture.specs.Drawings.{Begun, Heard, LinesKept, OneMore, Sent, SinceKept, column_of, kind_sent, nearest_of, noted, restarted, ticks_after};
 ghost use Rattle.picture.specs.Messages.{ColumnShown};
 ghost use Rattle.picture.specs.Tracks.{AllDrawn, NoneDrawn, forgotten, since_at, MarkedIf};
-ghost use Rattle.std.specs.Prelude.{◌≡◌, IfOk, OnOk, length, false};
+ghost use Rattle.std.specs.Prelude.{◌≡◌, IfOk, OnOk, false};
 
 use crate::extent::Extent;
-use crate::grid::round_step;
 use crate::messages::Messages;
 use crate::nearest::{Gap, smallest_gap};
-use crate::page::Point;
-use crate::scale::Scale;
 use crate::sending::Kind;
 use crate::track::{Since, Track, mark_if};
 use message::format::MESSAGE_LENGTH;
 use onboard::{Train, Word};
+use page::{Point, Scale, round_step};
 use safety::Event;
 use std::alloc::{AllocError, Global};
 
-// The most columns that a picture has, and how many points of trains in all.
+/// The most columns that a picture has, and how many points of trains in all.
 const COLUMNS: u64 = 1_290;
 
 const POINTS: u64 = 25_600;
 
-// How many uprights the grid has at most.
+/// How many uprights the grid has at most.
 const MOMENTS: u64 = 12;
 
-// The smallest gap so far, and after how many events it came.
+/// The smallest gap so far, and after how many events it came.
 #[derive(Clone, Copy, PartialEq, Eq, Debug)]
 pub struct Nearest {
     pub gap: Gap,
     pub events: u64,
 }
 
-// How many ticks there were among so many events.
+/// How many ticks there were among so many events.
 #[derive(Clone, Copy, PartialEq, Eq, Debug)]
 pub struct Moment {
     pub events: u64,
@@ -43,19 +41,19 @@ pub struct Moment {
 pub struct Drawing {
     pub scale: Scale,
     pub columns: u64,
-    // how many events were drawn, and how many of them are ticks
+    /// how many events were drawn, and how many of them are ticks
     pub events: u64,
     pub ticks: u64,
     pub tracks: Vec<Track>,
     pub messages: Messages,
-    // where controllers restarted
+    /// where controllers restarted
     pub restarts: Vec<Point>,
     pub nearest: Option<Nearest>,
-    // after round numbers of events
+    /// after round numbers of events
     pub moments: Vec<Moment>,
     step: u64,
     since: Vec<Since>,
-    // a controller did since lines were drawn on
+    /// a controller did since lines were drawn on
     restarted: bool,
 }
 
@@ -65,13 +63,13 @@ const NOTHING: Since = Since {
 };
 
 impl Drawing {
-    // A picture of a day that will have this extent, with the trains as they stand at its beginning.
+    /// A picture of a day that will have this extent, with the trains as they stand at its beginning.
     pub fn new(alloc: Global, extent: Extent, trains: &[Train]) -> Result<Drawing, AllocError>
         ensures { IfOk result (Begun extent trains.now) }
     {
         let most = POINTS / (trains.len() as u64).max(1);
         let mut drawing = Drawing {
-            scale: Scale::of(extent),
+            scale: extent.scale(),
             columns: extent.events.min(COLUMNS).min(most),
             events: 0,
             ticks: 0,
@@ -89,7 +87,7 @@ impl Drawing {
         Ok(drawing)
     }
 
-    // The event is over: the word that a unit said to it, the trains as they are now, and all that was sent.
+    /// The event is over: the word that a unit said to it, the trains as they are now, and all that was sent.
     pub fn after(
         &mut self,
         event: Event,
@@ -112,13 +110,14 @@ impl Drawing {
         Ok(())
     }
 
-    // What the event did, but for what it sent.
+    /// What the event did, but for what it sent.
     fn note(&mut self, event: Event, word: Option<Word>)
         ensures lines { LinesKept self.old self.new }
         ensures since { self.new.since.items ≡ noted event word self.old.since.items }
         ensures restarted { self.new.restarted ≡ restarted event self.old.restarted }
         ensures ticks { self.new.ticks ≡ ticks_after event self.old.ticks }
-        ensures heard { Heard event self.old.scale self.old.events self.old.messages self.new.messages }
+        ensures heard { Heard event self.old.scale self.old.events
+            self.old.messages self.new.messages }
     {
         match event {
             Event::Tick { train, .. } => {
@@ -144,11 +143,12 @@ impl Drawing {
         }
     }
 
-    // What the event sent, if it did.
+    /// What the event sent, if it did.
     fn note_sent(&mut self, event: Event, sent: &[[u8; MESSAGE_LENGTH]]) -> Result<(), AllocError>
         ensures lines { OnOk result (LinesKept self.old self.new) }
         ensures since { OnOk result (SinceKept self.old self.new) }
-        ensures sent { OnOk result (Sent event self.old.scale self.old.events sent.now self.old.messages self.new.messages) }
+        ensures sent { OnOk result (Sent event self.old.scale self.old.events sent.now
+            self.old.messages self.new.messages) }
     {
         let Some(kind) = kind_sent(event) else {
             return Ok(());
@@ -173,23 +173,25 @@ impl Drawing {
         Ok(())
     }
 
-    // The column of the picture that the last event is in.
+    /// The column of the picture that the last event is in.
     fn column(&self) -> u64
         ensures { result ≡ column_of self.now }
     {
-        let events = self.events.min(self.scale.events) as u128;
-        (events * self.columns as u128 / self.scale.events.max(1) as u128) as u64
+        let events = self.events.min(self.scale.steps) as u128;
+        (events * self.columns as u128 / self.scale.steps.max(1) as u128) as u64
     }
 
-    // Draws the lines of all trains on to where they are, and what came by radio.
+    /// Draws the lines of all trains on to where they are, and what came by radio.
     fn draw(&mut self, trains: &[Train]) -> Result<(), AllocError>
         ensures events { self.new.events ≡ self.old.events }
         ensures ticks { self.new.ticks ≡ self.old.ticks }
         ensures scale { self.new.scale ≡ self.old.scale }
         ensures columns { self.new.columns ≡ self.old.columns }
         ensures nearest { self.new.nearest ≡ self.old.nearest }
-        ensures tracks { OnOk result (AllDrawn self.old.scale self.old.events trains.now self.old.since.items self.new.since.items self.old.tracks.items self.new.tracks.items) }
-        ensures restarts { OnOk result (MarkedIf self.old.restarted self.old.scale self.old.events 0 self.old.restarts.items self.new.restarts.items) }
+        ensures tracks { OnOk result (AllDrawn self.old.scale self.old.events trains.now
+            self.old.since.items self.new.since.items self.old.tracks.items self.new.tracks.items) }
+        ensures restarts { OnOk result (MarkedIf self.old.restarted self.old.scale self.old.events 0
+            self.old.restarts.items self.new.restarts.items) }
         ensures restarted { OnOk result (self.new.restarted ≡ false) }
         ensures messages { OnOk result (ColumnShown self.old.messages self.new.messages) }
     {
@@ -211,9 +213,10 @@ impl Drawing {
         self.messages.draw()
     }
 
-    // Draws the trains of a day without events as they stand, from one edge to the other.
+    /// Draws the trains of a day without events as they stand, from one edge to the other.
     pub fn stand(&mut self, trains: &[Train]) -> Result<(), AllocError>
-        ensures { OnOk result (AllDrawn self.old.scale 1 trains.now self.old.since.items self.new.since.items self.old.tracks.items self.new.tracks.items) }
+        ensures { OnOk result (AllDrawn self.old.scale 1 trains.now
+            self.old.since.items self.new.since.items self.old.tracks.items self.new.tracks.items) }
     {
         draw_tracks(&mut self.tracks, &mut self.since, self.scale, 1, trains)
     }
@@ -236,7 +239,8 @@ fn draw_tracks(
     events: u64,
     trains: &[Train],
 ) -> Result<(), AllocError>
-    ensures { OnOk result (AllDrawn scale events trains.now since.old.items since.new.items tracks.old.items tracks.new.items) }
+    ensures { OnOk result (AllDrawn scale events trains.now
+        since.old.items since.new.items tracks.old.items tracks.new.items) }
 {
     for number in 0..tracks.len().min(trains.len()) {
         let happened = take_since(since, number);
@@ -245,7 +249,7 @@ fn draw_tracks(
     Ok(())
 }
 
-// What happened to a train since its lines were drawn on; from now on it is nothing.
+/// What happened to a train since its lines were drawn on; from now on it is nothing.
 fn take_since(since: &mut Vec<Since>, number: usize) -> Since
     ensures happened { result ≡ since_at since.old.items number }
     ensures left { since.new.items ≡ forgotten since.old.items number }
@@ -260,7 +264,7 @@ fn take_since(since: &mut Vec<Since>, number: usize) -> Since
     }
 }
 
-// The smallest gap so far, after one look more.
+/// The smallest gap so far, after one look more.
 fn nearer(nearest: Option<Nearest>, gap: Option<Gap>, events: u64) -> Option<Nearest>
     ensures { result ≡ nearest_of nearest gap events }
 {
@@ -273,7 +277,7 @@ fn nearer(nearest: Option<Nearest>, gap: Option<Gap>, events: u64) -> Option<Nea
     }
 }
 
-// What an event sends, if it does.
+/// What an event sends, if it does.
 fn kind_sent(event: Event) -> Option<Kind>
     ensures { result ≡ kind_sent event }
 {

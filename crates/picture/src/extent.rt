@@ -1,22 +1,23 @@
-// What a picture of a day has to hold. It is known when the day was played once.
-ghost use Rattle.picture.specs.Extents.{nothing, one_event, with_train, with_trains};
+//! What a picture of a day has to hold. It is known when the day was played once.
+ghost use Rattle.picture.specs.Extents.{nothing, one_event, scale_for, with_train, with_trains};
 ghost use Rattle.std.specs.Prelude.{◌≡◌};
 
 use onboard::Train;
+use page::Scale;
 
 #[derive(Clone, Copy, PartialEq, Eq, Debug)]
 pub struct Extent {
     pub events: u64,
-    // the lowest rear
+    /// the lowest rear
     pub lowest: u64,
-    // the farthest place where a train may be, as far as its unit knows
+    /// the farthest place where a train may be, as far as its unit knows
     pub farthest: u64,
-    // the highest end
+    /// the highest end
     pub highest: u64,
 }
 
 impl Extent {
-    // As the day begins.
+    /// As the day begins.
     pub fn of(trains: &[Train]) -> Extent
         ensures { result ≡ with_trains nothing trains.now }
     {
@@ -29,7 +30,7 @@ impl Extent {
         nothing.with_trains(trains)
     }
 
-    // After one event more.
+    /// After one event more.
     pub fn after(self, trains: &[Train]) -> Extent
         ensures { result ≡ with_trains (one_event self) trains.now }
     {
@@ -38,6 +39,14 @@ impl Extent {
             ..self
         };
         more.with_trains(trains)
+    }
+
+    /// The scale of a picture that holds it. Where the highest end lies much farther than any train came, the places are
+    /// cut above the trains.
+    pub(crate) fn scale(self) -> Scale
+        ensures { result ≡ scale_for self }
+    {
+        Scale::of(self.events, self.lowest, self.farthest, self.highest)
     }
 
     fn with_trains(mut self, trains: &[Train]) -> Extent

@@ -1,9 +1,7 @@
-// What the lines and marks of a picture mean.
-ghost use Rattle.picture.specs.Legends.{cut_legend, cut_legend_if, drawn_text, drawn_text_if, legend, legend_text};
-ghost use Rattle.std.specs.Prelude.{◌≡◌, ◌++◌, OnOk, string_bytes};
+//! What the lines and glyphs of a picture mean.
 
 use crate::messages::Messages;
-use crate::scale::Scale;
+use page::Scale;
 use std::alloc::AllocError;
 
 const LEGEND: &str = "<g class=\"c0\">
@@ -31,68 +29,21 @@ const CUT: &str =
     "<path class=\"cut\" d=\"M11500,10350H11800\"/><text x=\"11850\" y=\"10405\">above this, places lie closer</text>
 ";
 
-pub fn write_legend(out: &mut String, scale: Scale, messages: &Messages) -> Result<(), AllocError>
-    ensures { OnOk result (string_bytes out.new ≡ string_bytes out.old ++ legend_text scale messages.now) }
-{
-    write_all_alike(out)?;
-    write_cut(out, scale)?;
-    write_drawn(
-        out,
-        messages.sendings.len(),
-        messages.count(),
-        messages.hearings.len() as u64,
-        messages.heard,
-    )?;
-    Ok(())
-}
-
-#[tactic(auto, unfolding(crate::specs::Legends::legend))]
-fn write_all_alike(out: &mut String) -> Result<(), AllocError>
-    ensures { OnOk result (string_bytes out.new ≡ string_bytes out.old ++ legend) }
-{
-    out.push_str(LEGEND)
-}
-
-#[tactic(auto, unfolding(crate::specs::Legends::cut_legend))]
-fn write_cut(out: &mut String, scale: Scale) -> Result<(), AllocError>
-    ensures { OnOk result (string_bytes out.new ≡ string_bytes out.old ++ cut_legend_if scale) }
-{
+/// The legend, and how many messages are drawn, if not all are.
+pub fn write_legend(out: &mut String, scale: Scale, messages: &Messages) -> Result<(), AllocError> {
+    out.push_str(LEGEND)?;
     if scale.cut < scale.highest {
         out.push_str(CUT)?;
     }
-    Ok(())
-}
-
-// How many messages are drawn, if not all are.
-fn write_drawn(
-    out: &mut String,
-    sendings: usize,
-    sent: usize,
-    hearings: u64,
-    heard: u64,
-) -> Result<(), AllocError>
-    ensures { OnOk result (string_bytes out.new ≡ string_bytes out.old ++ drawn_text_if sendings sent hearings heard) }
-{
+    let sendings = messages.sendings.len();
+    let sent = messages.count();
+    let hearings = messages.hearings.len() as u64;
+    let heard = messages.heard;
     if hearings < heard || sendings < sent {
-        write_drawn_counts(out, sendings, sent, hearings, heard)?;
+        out.push_str("<text class=\"small\" x=\"1250\" y=\"11200\">Drawn are ")?;
+        write!(out, "{sendings} of {sent} sendings and ")?;
+        write!(out, "{hearings} of {heard} hearings and takings")?;
+        out.push_str(": of each kind the first sent in each column of the picture.</text>\n")?;
     }
-    Ok(())
-}
-
-fn write_drawn_counts(
-    out: &mut String,
-    sendings: usize,
-    sent: usize,
-    hearings: u64,
-    heard: u64,
-) -> Result<(), AllocError>
-    ensures { OnOk result (string_bytes out.new ≡ string_bytes out.old ++ drawn_text sendings sent hearings heard) }
-{
-    write!(
-        out,
-        "<text class=\"small\" x=\"1250\" y=\"11200\">Drawn are {sendings} of {sent} sendings and "
-    )?;
-    write!(out, "{hearings} of {heard} hearings and takings")?;
-    out.push_str(": of each kind the first sent in each column of the picture.</text>\n")?;
     Ok(())
 }

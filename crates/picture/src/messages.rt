@@ -1,28 +1,27 @@
-// What goes over the radio: sendings, hearings and takings.
-ghost use Rattle.line.specs.Runs.{one_or_none};
+//! What goes over the radio: sendings, hearings and takings.
 ghost use Rattle.picture.specs.Messages.{ColumnShown, HeardMore, NoMessages, SentMore, ShownKept, earlier, place_said, with_hearing, with_sending};
 ghost use Rattle.picture.specs.declared.sending.Sending.{Sending};
-ghost use Rattle.std.specs.Prelude.{◌≡◌, ◌++◌, OnOk, None, Some, length, slice_get};
+ghost use Rattle.std.specs.Prelude.{◌≡◌, ◌++◌, OnOk, None, Some, length, option_to_list, slice_get};
 
-use crate::scale::Scale;
 use crate::sending::{Hearing, Kind, Sending};
 use message::format::MESSAGE_LENGTH;
 use message::read;
+use page::Scale;
 use std::alloc::{AllocError, Global};
 
-// What is drawn of them. Where several come to one column of the picture, the earliest that was sent of each kind is.
+/// What is drawn of them. Where several come to one column of the picture, the earliest that was sent of each kind is.
 #[derive(Drop)]
 pub struct Messages {
-    // all, by number
+    /// all, by number
     sent: Vec<Sending>,
     pub sendings: Vec<Sending>,
     pub hearings: Vec<Hearing>,
-    // how many hearings and takings there were
+    /// how many hearings and takings there were
     pub heard: u64,
     column: Column,
 }
 
-// Those of the column that is being drawn.
+/// Those of the column that is being drawn.
 #[derive(Clone, Copy, PartialEq, Eq, Debug)]
 struct Column {
     report_sent: Option<Sending>,
@@ -55,7 +54,7 @@ impl Messages {
         }
     }
 
-    // How many were sent.
+    /// How many were sent.
     pub fn count(&self) -> usize
         ensures { result ≡ length self.now.sent.items }
     {
@@ -86,8 +85,10 @@ impl Messages {
     }
 
     pub fn hear(&mut self, scale: Scale, events: u64, message: u64, taken: bool)
-        ensures heard { (sending : Sending) → slice_get self.old.sent.items message ≡ Some sending → HeardMore scale events sending taken self.old self.new }
-        ensures unknown { slice_get self.old.sent.items message ≡ None → (self.new.column ≡ self.old.column) × (self.new.heard ≡ self.old.heard) }
+        ensures heard { (sending : Sending) → slice_get self.old.sent.items message ≡ Some sending →
+            HeardMore scale events sending taken self.old self.new }
+        ensures unknown { slice_get self.old.sent.items message ≡ None →
+            (self.new.column ≡ self.old.column) × (self.new.heard ≡ self.old.heard) }
         ensures sent { self.new.sent.items ≡ self.old.sent.items }
         ensures shown { ShownKept self.old self.new }
     {
@@ -100,7 +101,7 @@ impl Messages {
         self.column = self.column.with_hearing(hearing);
     }
 
-    // A column is over.
+    /// A column is over.
     pub fn draw(&mut self) -> Result<(), AllocError>
         ensures { OnOk result (ColumnShown self.old self.new) }
     {
@@ -156,7 +157,7 @@ impl Column {
     }
 }
 
-// Of two hearings that of the earlier message, and of one message the first.
+/// Of two hearings that of the earlier message, and of one message the first.
 fn earlier(first: Option<Hearing>, next: Hearing) -> Option<Hearing>
     ensures { result ≡ earlier first next }
 {
@@ -167,7 +168,7 @@ fn earlier(first: Option<Hearing>, next: Hearing) -> Option<Hearing>
 }
 
 fn push_some<T: Copy>(list: &mut Vec<T>, next: Option<T>) -> Result<(), AllocError>
-    ensures { OnOk result (list.new.items ≡ list.old.items ++ one_or_none next) }
+    ensures { OnOk result (list.new.items ≡ list.old.items ++ option_to_list next) }
 {
     if let Some(next) = next {
         list.push(next)?;
@@ -175,7 +176,7 @@ fn push_some<T: Copy>(list: &mut Vec<T>, next: Option<T>) -> Result<(), AllocErr
     Ok(())
 }
 
-// The place that a message says, and 0 where the bytes cannot be read.
+/// The place that a message says, and 0 where the bytes cannot be read.
 fn place_said(bytes: &[u8]) -> u64
     ensures { result ≡ place_said bytes.now }
 {

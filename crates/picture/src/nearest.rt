@@ -1,10 +1,10 @@
-// Where two trains came closest.
+//! Where two trains came closest.
 ghost use Rattle.picture.specs.Nearest.{SmallestGap, gap_between, gap_of, smaller_gap};
 ghost use Rattle.std.specs.Prelude.{◌≡◌};
 
 use onboard::Train;
 
-// A gap: the train ahead of it by number, its rear, and the front of the train behind it.
+/// A gap: the train ahead of it by number, its rear, and the front of the train behind it.
 #[derive(Clone, Copy, PartialEq, Eq, Debug)]
 pub struct Gap {
     pub ahead: u64,
@@ -30,7 +30,7 @@ impl Gap {
     }
 }
 
-// The smallest gap between neighbours, and of several the foremost.
+/// The smallest gap between neighbours, and of several the foremost.
 #[tactic(auto, using(crate::proofs::Gaps::all))]
 pub fn smallest_gap(trains: &[Train]) -> Option<Gap>
     ensures { SmallestGap trains.now result }
@@ -43,7 +43,7 @@ pub fn smallest_gap(trains: &[Train]) -> Option<Gap>
     smallest
 }
 
-// The next gap where it is smaller than the smallest so far.
+/// The next gap where it is smaller than the smallest so far.
 fn smaller_gap(smallest: Option<Gap>, next: Gap) -> Gap
     ensures { result ≡ smaller_gap smallest next }
 {

@@ -1,11 +1,10 @@
-// A message that was sent, and one that was heard or taken.
-ghost use Rattle.picture.specs.Scales.{across};
+//! A message that was sent, and one that was heard or taken.
+ghost use Rattle.page.specs.Scales.{across};
 ghost use Rattle.std.specs.Prelude.{◌≡◌};
 
-use crate::page::Point;
-use crate::scale::Scale;
+use page::{Point, Scale};
 
-// What was sent: a unit's report, a controller's words on a train, or a grant.
+/// What was sent: a unit's report, a controller's words on a train, or a grant.
 #[derive(Clone, Copy, PartialEq, Eq, Debug)]
 pub enum Kind {
     Report,
@@ -13,7 +12,7 @@ pub enum Kind {
     Grant,
 }
 
-// A message at the place that it says, by its number.
+/// A message at the place that it says, by its number.
 #[derive(Clone, Copy, PartialEq, Eq, Debug)]
 pub struct Sending {
     pub number: u64,
@@ -22,8 +21,8 @@ pub struct Sending {
     pub at: Point,
 }
 
-// A message comes to a controller, which hears it, or to a train, which takes it. It always carries the fact that it is
-// drawn level with its sending.
+/// A message comes to a controller, which hears it, or to a train, which takes it. It always carries the fact that it
+/// is drawn level with its sending.
 #[derive(Clone, Copy, PartialEq, Eq, Debug)]
 pub struct Hearing {
     pub sending: Sending,
@@ -33,7 +32,7 @@ pub struct Hearing {
 }
 
 impl Hearing {
-    // After so many events the message is heard or taken.
+    /// After so many events the message is heard or taken.
     pub(crate) fn of(sending: Sending, scale: Scale, events: u64, taken: bool) -> Hearing
         ensures of { (result.sending ≡ sending) × (result.taken ≡ taken) }
         ensures across { result.at.x ≡ across scale events }

@@ -1,21 +1,20 @@
-// The lines of one train.
+//! The lines of one train.
 ghost use Rattle.picture.specs.Tracks.{Drawn, Followed, GoesOn, MarkedIf, NoLines, StepsOn};
 ghost use Rattle.std.specs.Prelude.{OnOk};
 
-use crate::page::Point;
-use crate::scale::Scale;
 use onboard::Train;
+use page::{Point, Scale};
 use std::alloc::{AllocError, Global};
 
 #[derive(Drop)]
 pub struct Lines {
-    // where the train really is
+    /// where the train really is
     pub fronts: Vec<Point>,
     pub rears: Vec<Point>,
-    // where its unit knows its front to be
+    /// where its unit knows its front to be
     pub lows: Vec<Point>,
     pub highs: Vec<Point>,
-    // how far it may go, in steps
+    /// how far it may go, in steps
     pub ends: Vec<Point>,
 }
 
@@ -32,7 +31,7 @@ impl Lines {
         }
     }
 
-    // Draws the lines on to where the train is after so many events.
+    /// Draws the lines on to where the train is after so many events.
     fn draw(&mut self, scale: Scale, events: u64, train: &Train) -> Result<(), AllocError>
         ensures { OnOk result (Followed scale events train.now self.old self.new) }
     {
@@ -48,12 +47,12 @@ impl Lines {
 #[derive(Drop)]
 pub struct Track {
     pub lines: Lines,
-    // where its unit braked, and where it passed a mark
+    /// where its unit braked, and where it passed a mark
     pub braked: Vec<Point>,
     pub marked: Vec<Point>,
 }
 
-// What happened to a train since its lines were drawn on.
+/// What happened to a train since its lines were drawn on.
 #[derive(Clone, Copy, PartialEq, Eq, Debug)]
 pub struct Since {
     pub braked: bool,
@@ -71,7 +70,7 @@ impl Track {
         }
     }
 
-    // Draws the train on to where it is after so many events.
+    /// Draws the train on to where it is after so many events.
     pub fn draw(
         &mut self,
         scale: Scale,
@@ -87,7 +86,7 @@ impl Track {
     }
 }
 
-// Puts a mark where a place is after so many events, if there is something to mark.
+/// Puts a mark where a place is after so many events, if there is something to mark.
 pub(crate) fn mark_if(
     holds: bool,
     marks: &mut Vec<Point>,
@@ -110,7 +109,7 @@ fn go_on(line: &mut Vec<Point>, scale: Scale, events: u64, place: u64) -> Result
     Ok(())
 }
 
-// Goes level to below or above the next point, and then straight to it.
+/// Goes level to below or above the next point, and then straight to it.
 fn step_on(line: &mut Vec<Point>, scale: Scale, events: u64, place: u64) -> Result<(), AllocError>
     ensures { OnOk result (StepsOn scale events place line.old.items line.new.items) }
 {

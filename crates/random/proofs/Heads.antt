@@ -14,8 +14,11 @@ use Rattle.scenario.specs.Laws.{NoDoubles}
 use Rattle.scenario.specs.Texts.{is_double}
 use Rattle.random.specs.declared.day.Extent.{Extent}
 use Rattle.random.specs.Days.{Begins}
-use Rattle.random.specs.Heads.{head_lines}
 use Rattle.random.proofs.Trains.{first_fits}
+
+-- brake, blur, controllers, and then the trains by number
+abbrev pub head_lines : (brake blur controllers : ℕ) → List InitialTrain → List HeadLine
+head_lines brake blur controllers trains = heads.Brake brake ∷ heads.Blur blur ∷ heads.Controllers controllers ∷ map heads.Train trains
 
 same_brakes : (brakes : Brakes) (ts : List InitialTrain) → fold with_brakes brakes (map heads.Train ts) ≡ brakes
 same_brakes brakes [] = refl

@@ -1,9 +1,3 @@
-pub mod Drawn
-pub mod Drawing
-pub mod Events
-pub mod Few
-pub mod Halves
-pub mod Tries
 pub mod Nothing
 pub mod Trains
 pub mod Heads

@@ -1,6 +1,7 @@
 -- What a random day is. Assumes nothing: these are definitions.
-use Rattle.std.specs.Prelude.{◌≡◌, ℕ, ◌≤◌, ◌⊎◌, false, List, [], length, Ok}
+use Rattle.std.specs.Prelude.{◌≡◌, ℕ, ◌≤◌, ◌⊎◌, false, List, [], length, Ok, Result}
 use Rattle.std.specs.List.{AllByRecursion}
+use Rattle.braking.specs.declared.refusal.Refusal.{Refusal}
 use Rattle.line.specs.Initial.{new_line}
 use Rattle.safety.specs.declared.event.Event.{Event}
 use Rattle.safety.specs.State.{State}
@@ -11,14 +12,15 @@ use Rattle.scenario.specs.Lines.{HeadFits, EventFits}
 use Rattle.scenario.specs.Laws.{NoDoubles}
 use Rattle.random.specs.declared.day.Extent.{Extent}
 use Rattle.random.specs.declared.day.Day.{Day}
-use Rattle.random.specs.Beginnings.{random_beginning}
-use Rattle.random.specs.Chances.{words_of}
-use Rattle.random.specs.Following.{events_of_day}
+
+-- the line that is made of a head, or why no day can begin so
+abbrev pub line_of : List HeadLine → Result State Refusal
+line_of head = new_line (brakes_of head) (trains_of head) (controllers_of head)
 
 -- a day can begin so, it has no more trains and controllers than were wanted, and it can be written
 pub record Begins (extent : Extent) (head : List HeadLine) : Type 0 where
   pub first : State
-  pub made : new_line (brakes_of head) (trains_of head) (controllers_of head) ≡ Ok first
+  pub made : line_of head ≡ Ok first
   pub trains : length (trains_of head) ≤ extent.trains
   pub controllers : controllers_of head ≤ extent.controllers
   pub fits : AllByRecursion HeadFits head
@@ -34,9 +36,3 @@ pub record Follow (count : ℕ) (s : State) (es : List Event) : Type 0 where
 pub record IsDay (extent : Extent) (day : Day) : Type 0 where
   pub begins : Begins extent day.head.items
   pub follow : Follow extent.events begins.first day.events.items
-
--- the day that is drawn of a seed: its head, and its events on the line that the head makes
-pub record DrawnBy (seed : ℕ) (extent : Extent) (day : Day) : Type 0 where
-  pub head : day.head.items ≡ (random_beginning extent (words_of seed)).0
-  pub events : (first : State) → new_line (brakes_of day.head.items) (trains_of day.head.items) (controllers_of day.head.items) ≡ Ok first →
-      day.events.items ≡ events_of_day extent.events first (random_beginning extent (words_of seed)).1

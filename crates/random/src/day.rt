@@ -1,10 +1,6 @@
-// A random day.
-ghost use Rattle.line.specs.Initial.{new_line};
+//! A random day.
 ghost use Rattle.line.specs.Steps.{state};
-ghost use Rattle.random.specs.Chances.{coming};
-ghost use Rattle.random.specs.Days.{DrawnBy, Follow, IsDay};
-ghost use Rattle.random.specs.Following.{some_events};
-ghost use Rattle.scenario.specs.Heads.{brakes_of, controllers_of, trains_of};
+ghost use Rattle.random.specs.Days.{Follow, IsDay, line_of};
 ghost use Rattle.std.specs.Prelude.{◌≡◌, IfOk, Ok};
 
 use crate::beginning::random_beginning;
@@ -16,7 +12,7 @@ use safety::Event;
 use scenario::{Head, HeadLine};
 use std::alloc::{AllocError, Global};
 
-// How large a day is: so many trains and controllers at most, and so many events.
+/// How large a day is: so many trains and controllers at most, and so many events.
 #[derive(Clone, Copy, PartialEq, Eq, Debug)]
 pub struct Extent {
     pub trains: u64,
@@ -24,18 +20,17 @@ pub struct Extent {
     pub events: u64,
 }
 
-// Its scenario.
+/// Its scenario.
 #[derive(Drop)]
 pub struct Day {
     pub head: Vec<HeadLine>,
     pub events: Vec<Event>,
 }
 
-// The day of a seed: as many events as are wanted, each of which can be; none where there is neither train nor
-// controller.
+/// The day of a seed: as many events as are wanted, each of which can be; none where there is
+/// neither train nor controller.
 pub fn random_day(alloc: Global, seed: u64, extent: Extent) -> Result<Day, AllocError>
     ensures is { IfOk result (IsDay extent) }
-    ensures drawn { IfOk result (DrawnBy seed extent) }
 {
     let mut chance = Chance::new(seed);
     let head = random_beginning(alloc, extent, &mut chance)?;
@@ -43,6 +38,13 @@ pub fn random_day(alloc: Global, seed: u64, extent: Extent) -> Result<Day, Alloc
     let kinds = Kinds::any(&mut chance);
     let events = some_events(alloc, &mut line, extent.events, kinds, &mut chance)?;
     Ok(Day { head, events })
+}
+
+fn line_of(alloc: Global, head: &[HeadLine]) -> Result<Line, AllocError>
+    ensures { IfOk result (λ line. line_of head.now ≡ Ok (state line.parts)) }
+{
+    let head = Head::of(alloc, head)?;
+    Line::new(alloc, head.brakes, &head.trains, head.controllers as usize).map_err(|_| AllocError)
 }
 
 // So many events, one after another, up to one after which there can be none.
@@ -53,8 +55,7 @@ fn some_events(
     kinds: Kinds,
     chance: &mut Chance,
 ) -> Result<Vec<Event>, AllocError>
-    ensures follow { IfOk result (λ events. Follow count (state line.old.parts) events.items) }
-    ensures drawn { IfOk result (λ events. events.items ≡ some_events kinds count (state line.old.parts) (coming chance.old)) }
+    ensures { IfOk result (λ events. Follow count (state line.old.parts) events.items) }
 {
     let mut events = Vec::new(alloc);
     for _ in 0..count {
@@ -67,11 +68,4 @@ fn some_events(
         events.push(event)?;
     }
     Ok(events)
-}
-
-fn line_of(alloc: Global, head: &[HeadLine]) -> Result<Line, AllocError>
-    ensures { IfOk result (λ line. new_line (brakes_of head.now) (trains_of head.now) (controllers_of head.now) ≡ Ok (state line.parts)) }
-{
-    let head = Head::of(alloc, head)?;
-    Line::new(alloc, head.brakes, &head.trains, head.controllers as usize).map_err(|_| AllocError)
 }

@@ -1,8 +1,4 @@
-// How often each kind of event comes.
-ghost use Rattle.random.specs.Chances.{coming};
-ghost use Rattle.random.specs.Shares.{all_of, kind_at, one_of, shares, some_kinds};
-ghost use Rattle.std.specs.Prelude.{◌≡◌, ◌≤◌};
-
+//! How often each kind of event comes.
 use crate::chance::Chance;
 
 #[derive(Clone, Copy, PartialEq, Eq, Debug)]
@@ -17,25 +13,21 @@ pub enum Kind {
     Restart,
 }
 
-// Which kinds a day has most of.
+/// Which kinds a day has most of.
 #[derive(Clone, Copy, PartialEq, Eq, Debug)]
 pub enum Kinds {
-    // all, in a proportion in which trains get on
+    /// All, in a proportion in which trains get on.
     Mixed,
-    // trains that drive much and hear little
+    /// Trains that drive much and hear little.
     Driving,
-    // messages, and few ticks
+    /// Messages, and few ticks.
     Radio,
-    // each kind as often as another
+    /// Each kind as often as another.
     Even,
 }
 
 impl Kinds {
-    #[tactic(auto, unfolding(crate::specs::Shares::some_kinds))]
-    pub fn any(chance: &mut Chance) -> Kinds
-        ensures value { result ≡ (some_kinds (coming chance.old)).0 }
-        ensures numbers { coming chance.new ≡ (some_kinds (coming chance.old)).1 }
-    {
+    pub fn any(chance: &mut Chance) -> Kinds {
         match chance.up_to(5) {
             0 => Kinds::Driving,
             1 => Kinds::Radio,
@@ -44,11 +36,24 @@ impl Kinds {
         }
     }
 
-    // How often each kind comes, of all of these together.
-    #[tactic(auto, unfolding(crate::specs::Shares::shares))]
-    fn shares(self) -> [(Kind, u64); 8]
-        ensures { result ≡ shares self }
-    {
+    /// A kind, as often as its share of all of them.
+    pub fn one(self, chance: &mut Chance) -> Kind {
+        let shares = self.shares();
+        let mut all = 0u64;
+        for (_, share) in &shares {
+            all = all.saturating_add(*share);
+        }
+        let mut left = chance.up_to(all.saturating_sub(1));
+        for (kind, share) in &shares {
+            if left < *share {
+                return *kind;
+            }
+            left -= *share;
+        }
+        Kind::Tick
+    }
+
+    fn shares(self) -> [(Kind, u64); 8] {
         let [tick, mark, report, hear, tell, grant, take, restart] = match self {
             Kinds::Mixed => [12, 2, 4, 5, 2, 4, 8, 1],
             Kinds::Driving => [30, 2, 2, 2, 1, 2, 4, 0],
@@ -66,42 +71,4 @@ impl Kinds {
             (Kind::Restart, restart),
         ]
     }
-
-    #[tactic(auto, using(crate::proofs::Few::few_shares), unfolding(crate::specs::Shares::one_of))]
-    pub fn one(self, chance: &mut Chance) -> Kind
-        ensures value { result ≡ (one_of self (coming chance.old)).0 }
-        ensures numbers { coming chance.new ≡ (one_of self (coming chance.old)).1 }
-    {
-        let shares = self.shares();
-        let number = chance.up_to(all_of(&shares).saturating_sub(1));
-        kind_at(&shares, number)
-    }
-}
-
-// How many shares there are in all.
-#[tactic(auto, unfolding(crate::specs::Shares::all_of))]
-fn all_of(shares: &[(Kind, u64)]) -> u64
-    requires { all_of shares.now ≤ 100 }
-    ensures { result ≡ all_of shares.now }
-{
-    let mut all = 0u64;
-    for (_, share) in shares {
-        all += *share;
-    }
-    all
-}
-
-// The kind that has the share of a number, counted from 0.
-#[tactic(auto, unfolding(crate::specs::Shares::kind_at))]
-fn kind_at(shares: &[(Kind, u64)], number: u64) -> Kind
-    ensures { result ≡ kind_at shares.now number }
-{
-    let mut left = number;
-    for (kind, share) in shares {
-        if left < *share {
-            return *kind;
-        }
-        left -= *share;
-    }
-    Kind::Tick
 }

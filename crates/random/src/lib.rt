@@ -1,4 +1,4 @@
-// Random days: how a day begins, and events that can be. A day follows from its seed.
+//! Random days: how a day begins, and events that can be. A day follows from its seed.
 #![tactic(auto)]
 
 mod beginning;

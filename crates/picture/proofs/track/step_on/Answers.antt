@@ -1,5 +1,5 @@
 use Rattle.std.proofs.Common.{◌≡◌, [], ◌∷◌, Option, None, Some, rules, refl, subst, sym}
-use Rattle.picture.specs.declared.page.Point.{Point}
+use Rattle.page.specs.declared.point.Point.{Point}
 use Rattle.picture.specs.Tracks.{last_of, turned}
 use Rattle.picture.proofs.track.step_on.Goals as goal
 use Rattle.picture.proofs.track.step_on.Goals.{in-Some+in_ok-push, in_default}

@@ -1,25 +1,18 @@
-use Rattle.std.proofs.Common.{rules}
-use Rattle.random.specs.Chances.{coming}
-use Rattle.random.proofs.Drawing.{one_more_drawn, trains_drawn}
-use Rattle.random.proofs.Trains.{limit_of_one_more, one_more_train}
+use Rattle.std.proofs.Common.{◌≡◌, true, rules}
+use Rattle.onboard.specs.InitialTrain.{fits}
+use Rattle.random.proofs.Trains.{limit_of_one_more, one_more_stands}
+use Rattle.random.proofs.beginning.random_trains.Goals.{then-train-eq0, else-train-eq0}
 use Rattle.random.proofs.beginning.random_trains.Goals as goal
 
 pub loop-train-preserved : goal.loop-train-preserved
-loop-train-preserved c = record {
-  stand = search (rules, one_more_train);
-  limit = search (rules, limit_of_one_more);
-  room = search rules;
-  count = search rules;
-  drawn = one_more_drawn c.loop-train.trains.items _ c.train_at-standing.result c.loop-train.train c.loop-train.limit _ _ c.args.count (coming c.loop-train.chance) _ _
-      (search rules) c.train_at-standing.ensures.value c.train_at-standing.ensures.numbers (search rules) c.loop-train.invariant.drawn;
-}
-
-pub returns-clause-trains : goal.returns-clause-trains
-returns-clause-trains c =
-    (trains_drawn c.loop-train.trains.items c.loop-train.train c.loop-train.limit c.args.count _ _ _ (coming c.loop-train.chance)
-    c.loop-train-test.false c.some_scale-scale.ensures.value c.some_scale-scale.ensures.numbers c.loop-train.invariant.drawn).0
-
-pub returns-clause-numbers : goal.returns-clause-numbers
-returns-clause-numbers c =
-    (trains_drawn c.loop-train.trains.items c.loop-train.train c.loop-train.limit c.args.count _ _ _ (coming c.loop-train.chance)
-    c.loop-train-test.false c.some_scale-scale.ensures.value c.some_scale-scale.ensures.numbers c.loop-train.invariant.drawn).1
+loop-train-preserved c =
+    let fit : fits c.loop-train.limit c.if-train-eq0.standing ≡ true = elim c.if-train-eq0.branch [
+      | then-train-eq0 w ↦ rw w.standing-is w.foremost-standing.ensures
+      | else-train-eq0 w ↦ rw w.standing-is w.behind-standing.ensures
+    ] in
+    record {
+      stand = one_more_stands c.loop-train.trains.items _ c.if-train-eq0.standing c.loop-train.limit c.in_ok-push.ensures.items c.loop-train.invariant.limit fit c.loop-train.invariant.stand;
+      limit = search (rules, limit_of_one_more);
+      room = search rules;
+      count = search rules;
+    }

@@ -16,5 +16,5 @@ returns c =
     let kept = c.in_ok-note_moment.ensures.lines in
     let columns : c.draw.new.self.columns ≡ columns_of c.args.extent (length c.args.trains.now) = search rules in
     let messages : NoMessages c.note_moment.new.self.messages = search rules in
-    begun _ _ _ c.note_moment.new.self _ c.in_ok-new_tracks.ensures (kept.scale ∙ c.of.ensures) kept.events c.in_ok-note_moment.ensures.since.ticks kept.tracks kept.nearest
+    begun _ _ _ c.note_moment.new.self _ c.in_ok-new_tracks.ensures (kept.scale ∙ c.scale.ensures) kept.events c.in_ok-note_moment.ensures.since.ticks kept.tracks kept.nearest
     c.draw.ensures.scale c.draw.ensures.events c.draw.ensures.ticks c.draw.ensures.nearest c.in_ok-draw.ensures.tracks count none no_restarts not_restarted columns messages c.in_ok-draw.ensures.messages
