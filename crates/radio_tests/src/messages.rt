@@ -2,12 +2,27 @@
 use crate::states::{FARTHEST, heard};
 use crate::vectors::{GRANTS, REPORTS, STREAM};
 use braking::Refusal;
-use message::{Message, next_message, read};
+use message::{Message, Next, next_message, read};
 use std::process::Abort;
 
 fn there_and_back(rt: &impl Abort, message: Message, bytes: &[u8; 12]) {
     assert_eq!(rt; message.write(), Ok(*bytes));
     assert_eq!(rt; read(bytes), Ok(message));
+}
+
+fn next_is_cut(rt: &impl Abort, stream: &[u8]) {
+    let wanted = if stream.len() < 12 {
+        Next {
+            message: None,
+            rest: stream,
+        }
+    } else {
+        Next {
+            message: Some(&stream[..12]),
+            rest: &stream[12..],
+        }
+    };
+    assert_eq!(rt; next_message(stream), wanted);
 }
 
 // Two of the stored messages have the right check and differ in eight bits alone: the report that the rear of train 1 is not
@@ -21,13 +36,8 @@ fn messages_there_and_back(rt: HostRuntime) {
         there_and_back(&rt, Message::Grant { train, place }, bytes);
     }
     for length in 0..25 {
-        let next = next_message(&STREAM[..length]);
-        let (message, rest) = if length < 12 {
-            (None, &STREAM[..length])
-        } else {
-            (Some(&STREAM[..12]), &STREAM[12..length])
-        };
-        assert_eq!(rt; (next.message, next.rest), (message, rest));
+        let part = &STREAM[..length];
+        next_is_cut(&rt, part);
     }
 }
 
