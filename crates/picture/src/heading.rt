@@ -7,13 +7,13 @@ use page::{broken, write_end_of, write_escaped, write_page};
 use std::alloc::AllocError;
 
 #[derive(Clone, Copy)]
-pub struct Heading<'a> {
+pub struct Heading<'a, 'r> {
     /// What the day is called.
     pub title: &'a str,
     /// The gaps between trains, in words.
     pub gaps: &'a str,
     /// Why the day ends where the picture does, if it was refused.
-    pub refusal: Option<&'a str>,
+    pub refusal: Option<&'r str>,
 }
 
 /// No title is longer on the page, in signs; of a longer one its end is written.
@@ -26,7 +26,7 @@ const REFUSAL: usize = 120;
 pub fn write_heading(
     out: &mut String,
     drawing: &Drawing,
-    heading: Heading<'_>,
+    heading: Heading<'_, '_>,
 ) -> Result<(), AllocError> {
     out.push_str("<title>")?;
     write_escaped(out, heading.title)?;

@@ -15,7 +15,7 @@ use std::alloc::AllocError;
 pub fn write_picture(
     out: &mut String,
     drawing: &Drawing,
-    heading: Heading<'_>,
+    heading: Heading<'_, '_>,
 ) -> Result<(), AllocError> {
     write_head(out)?;
     write_heading(out, drawing, heading)?;
