@@ -37,7 +37,11 @@ fn check_trains(trains: &[InitialTrain]) -> Result<(), Refusal>
     Ok(())
 }
 
-fn all_trains(alloc: Global, brakes: Brakes, trains: &[InitialTrain]) -> Result<Vec<Train>, AllocError>
+fn all_trains(
+    alloc: Global,
+    brakes: Brakes,
+    trains: &[InitialTrain],
+) -> Result<Vec<Train>, AllocError>
     ensures { IfOk result (λ v. v.items ≡ trains_of brakes 0 trains.now) }
 {
     let mut on_line = Vec::with_capacity(alloc, trains.len())?;
