@@ -8,7 +8,7 @@ use Rattle.safety.proofs.Coming.{after_more, can_be_more}
 use Rattle.scenario.specs.Lines.{EventFits}
 use Rattle.random.specs.declared.day.Extent.{Extent}
 use Rattle.random.specs.declared.day.Day.{Day}
-use Rattle.random.specs.Days.{Begins, Follow, IsDay, line_of}
+use Rattle.random.specs.Days.{Begins, Follow, IsDay, new_line_of}
 
 -- so many events were done
 pub record Done (n : ℕ) (s : State) (es : List Event) (now : State) : Type 0 where
@@ -36,7 +36,7 @@ one_more_event count s now next es e done can fit is = record {
 
 -- a day begins with the line that its head makes, and events follow on that line
 pub day_of : (extent : Extent) (day : Day) (s : State) → Begins extent day.head.items →
-    line_of day.head.items ≡ Ok s → Follow extent.events s day.events.items → IsDay extent day
+    new_line_of day.head.items ≡ Ok s → Follow extent.events s day.events.items → IsDay extent day
 day_of extent day s begins made follow =
     let same : s ≡ begins.first = cc (made, begins.made) in
     record { begins = begins; follow = subst (λ first. Follow extent.events first day.events.items) same follow }

@@ -14,13 +14,13 @@ use Rattle.random.specs.declared.day.Extent.{Extent}
 use Rattle.random.specs.declared.day.Day.{Day}
 
 -- the line that is made of a head, or why no day can begin so
-abbrev pub line_of : List HeadLine → Result State Refusal
-line_of head = new_line (brakes_of head) (trains_of head) (controllers_of head)
+abbrev pub new_line_of : List HeadLine → Result State Refusal
+new_line_of head = new_line (brakes_of head) (trains_of head) (controllers_of head)
 
 -- a day can begin so, it has no more trains and controllers than were wanted, and it can be written
 pub record Begins (extent : Extent) (head : List HeadLine) : Type 0 where
   pub first : State
-  pub made : line_of head ≡ Ok first
+  pub made : new_line_of head ≡ Ok first
   pub trains : length (trains_of head) ≤ extent.trains
   pub controllers : controllers_of head ≤ extent.controllers
   pub fits : AllByRecursion HeadFits head

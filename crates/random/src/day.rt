@@ -1,6 +1,6 @@
 //! A random day.
 ghost use Rattle.line.specs.Steps.{state};
-ghost use Rattle.random.specs.Days.{Follow, IsDay, line_of};
+ghost use Rattle.random.specs.Days.{Follow, IsDay, new_line_of};
 ghost use Rattle.std.specs.Prelude.{◌≡◌, IfOk, Ok};
 
 use crate::beginning::random_beginning;
@@ -34,14 +34,14 @@ pub fn random_day(alloc: Global, seed: u64, extent: Extent) -> Result<Day, Alloc
 {
     let mut chance = Chance::new(seed);
     let head = random_beginning(alloc, extent, &mut chance)?;
-    let mut line = line_of(alloc, &head)?;
+    let mut line = new_line_of(alloc, &head)?;
     let kinds = Kinds::any(&mut chance);
     let events = some_events(alloc, &mut line, extent.events, kinds, &mut chance)?;
     Ok(Day { head, events })
 }
 
-fn line_of(alloc: Global, head: &[HeadLine]) -> Result<Line, AllocError>
-    ensures { IfOk result (λ line. line_of head.now ≡ Ok (state line.parts)) }
+fn new_line_of(alloc: Global, head: &[HeadLine]) -> Result<Line, AllocError>
+    ensures { IfOk result (λ line. new_line_of head.now ≡ Ok (state line.parts)) }
 {
     let head = Head::of(alloc, head)?;
     Line::new(alloc, head.brakes, &head.trains, head.controllers as usize).map_err(|_| AllocError)

@@ -6,6 +6,7 @@ ghost use Rattle.std.specs.Prelude.{◌≡◌, ◌≤◌};
 use crate::chance::Chance;
 use braking::limits::SPEED_MAX;
 use onboard::{Onboard, Word};
+use reasons::fastest;
 
 /// Most often about the highest speed that the unit lets, or a little more than the train has.
 pub fn some_wish(unit: Onboard, chance: &mut Chance) -> u64
@@ -53,14 +54,5 @@ pub fn some_speed(unit: Onboard, wish: u64, chance: &mut Chance) -> u64
         0 => 0,
         1 | 2 => chance.up_to(fastest),
         _ => fastest,
-    }
-}
-
-fn fastest(unit: Onboard, wish: u64) -> u64
-    ensures { result ≡ fastest unit wish }
-{
-    match unit.ask(wish).1 {
-        Ok(Word::Drive) => wish,
-        _ => unit.speed.saturating_sub(unit.brakes.brake),
     }
 }

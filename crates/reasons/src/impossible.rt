@@ -11,7 +11,7 @@ ghost use Rattle.std.specs.Prelude.{◌≡◌, ◌&&◌, IfNone, IfSome, None, S
 
 use line::Line;
 use message::{Message, read};
-use onboard::Word;
+use onboard::{Onboard, Word};
 use safety::Event;
 use std::fmt;
 
@@ -36,7 +36,7 @@ pub fn why_not(line: &Line, event: Event) -> Option<WhyNot>
             if !has_train(line, train) {
                 return Some(WhyNot::NoTrain { train });
             }
-            let fastest = fastest(line, train, wish);
+            let fastest = fastest_on(line, train, wish);
             (speed > fastest).then_some(WhyNot::TooFast { fastest })
         }
         Event::Mark { train } | Event::Report { train } => no_train(line, train),
@@ -110,16 +110,23 @@ fn may_be_taken(line: &Line, message: u64) -> bool
     }
 }
 
-// The highest speed that the train can have in a tick with the wish; 0 where there is no such train.
-fn fastest(line: &Line, train: u64, wish: u64) -> u64
+// The same of a train of the line; 0 where there is no such train.
+fn fastest_on(line: &Line, train: u64, wish: u64) -> u64
     ensures { result ≡ onboard.fastest (train_at (state line.now.parts) train).unit wish }
 {
     let Some(here) = line.trains().get(train as usize) else {
         return 0;
     };
-    match here.unit.ask(wish).1 {
+    fastest(here.unit, wish)
+}
+
+/// The highest speed that a train with this unit can have in a tick with the wish.
+pub fn fastest(unit: Onboard, wish: u64) -> u64
+    ensures { result ≡ onboard.fastest unit wish }
+{
+    match unit.ask(wish).1 {
         Ok(Word::Drive) => wish,
-        _ => here.unit.speed.saturating_sub(here.unit.brakes.brake),
+        _ => unit.speed.saturating_sub(unit.brakes.brake),
     }
 }
 

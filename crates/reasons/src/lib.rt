@@ -4,5 +4,5 @@
 pub mod impossible;
 pub mod misplaced;
 
-pub use impossible::{WhyNot, why_not};
+pub use impossible::{WhyNot, fastest, why_not};
 pub use misplaced::{Misplaced, misplaced_by};
