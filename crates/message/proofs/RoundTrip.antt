@@ -23,6 +23,10 @@ made_heard m r e = grind (arith, nat_tests, check_fits m)
 pub read_back : (m : Message) (bytes : List ℕ) → written m ≡ Ok bytes → received bytes ≡ Ok m
 read_back m bytes e = made_heard m (Ok bytes) (sym e)
 
+-- only a message that can be is heard
+pub heard_can_be : (bytes : List ℕ) (m : Message) → received bytes ≡ Ok m → message_checked m ≡ Ok tt
+heard_can_be bytes m e = grind (arith, nat_tests)
+
 -- four bytes are what the number that they are is written as
 bytes_back : (bytes : List ℕ) (at : ℕ) → AllBytes bytes →
     four_bytes (number_at bytes at) ≡ slice_index bytes at ∷ slice_index bytes (at + 1) ∷ slice_index bytes (at + 2) ∷ slice_index bytes (at + 3) ∷ []
